@@ -1,0 +1,96 @@
+-- What is proved of these definitions, each theorem as a type. proofs/Demands.antt has each under the same name in small letters.
+use mathlib.Core.Path.{_≡_}
+use mathlib.Core.Bool.{true, false, not}
+use mathlib.Core.List.{List}
+use mathlib.Core.Option.{some}
+use mathlib.Core.Logic.{_↔_}
+use Prim.Native.Nat.{ℕ, suc, _<_, _≤_}
+use lib.ListN.{length}
+use Rattle.meaning.specs.Tests.{_∈_, at}
+use Rattle.meaning.specs.Policy.{Clause, Policy, after, Holds, holds, Derivable}
+use Rattle.meaning.specs.Formula.{Formula, Truth, truth}
+use Rattle.meaning.specs.Papers.{Entry, Dossier, policy, Yes, Line, Certificate, witness, proof}
+use Rattle.meaning.specs.Looks.{LookTheSame, Value, aim, Detectable, Opaque}
+use Rattle.meaning.specs.Rules.{lineFollows}
+use Rattle.meaning.specs.Verdict.{Outcome, opaque, detectable, probeDiffers, secretTrue, lineFails, lastNotEmpty, tried, lastEmpty, judge, WitnessAccepted, ProofAccepted}
+use Rattle.meaning.specs.Extends.{Extends, WellNamed}
+
+-- ---- What a policy makes true
+
+-- The test `holds` is right.
+abbrev pub HoldsTested : Type 0
+HoldsTested = (P : Policy) (a : ℕ) → Holds P a ↔ (holds P a ≡ true)
+
+-- What some round adds is what source document 000 calls derivable.
+abbrev pub HoldsDerived : Type 0
+HoldsDerived = (P : Policy) (a : ℕ) → Holds P a ↔ Derivable P a
+
+-- With every head below n, and n at most k, k rounds give what holds and one more adds nothing. (01: n is at most 64, and 64 rounds are run.)
+abbrev pub RoundsEnough : Type 0
+RoundsEnough =
+    (n k : ℕ) (P : Policy) → ((c : Clause) → c ∈ P → c .head < n) → n ≤ k → (a : ℕ)
+    → (Holds P a ↔ (after P k a ≡ true)) × (after P (suc k) a ≡ after P k a)
+
+-- The test `truth` is right.
+abbrev pub TruthTested : Type 0
+TruthTested = (cs : List Clause) (P : Policy) (S : List ℕ) (f : Formula) → Truth cs P S f ↔ (truth cs P S f ≡ true)
+
+-- ---- Looks the same, detectable, opaque
+
+abbrev pub LooksLikeItself : Type 0
+LooksLikeItself = (D : Dossier) → LookTheSame D (policy D) (policy D)
+
+abbrev pub NotBoth : Type 0
+NotBoth = (D : Dossier) → Detectable D → Opaque D → ⊥
+
+-- ---- Demand 2
+
+-- k is the lowest number of which T is so
+pub record Lowest (T : ℕ → Type 0) (k : ℕ) : Type 0 where
+  pub here : T k
+  pub below : (j : ℕ) → j < k → T j → ⊥
+
+-- probe k is not answered by the policy tried as by the dossier's
+abbrev pub Differs : Dossier → Policy → ℕ → Type 0
+Differs D W k = (e : Entry) × (at (D .probes) k ≡ some e) × ((Yes D (policy D) e ↔ Yes D (tried D W) e) → ⊥)
+
+-- line k does not follow
+abbrev pub Fails : Dossier → List Line → ℕ → Type 0
+Fails D lines k = (k < length lines) × (lineFollows D lines k ≡ false)
+
+abbrev pub EachFollows : Dossier → List Line → Type 0
+EachFollows D lines = (k : ℕ) → k < length lines → lineFollows D lines k ≡ true
+
+-- When each outcome is given: the rows of 01's table, 14 to 17, and the two acceptances of demand 2.
+unfoldable pub When : Dossier → Certificate → Outcome → Type 0
+When D (witness W) opaque = LookTheSame D (policy D) (tried D W) × Value (not (aim D)) (Yes D (tried D W) (D .secret))
+When D (witness W) (probeDiffers k) = Lowest (Differs D W) k
+When D (witness W) secretTrue = LookTheSame D (policy D) (tried D W) × Value (aim D) (Yes D (tried D W) (D .secret))
+When D (witness W) detectable = ⊥
+When D (witness W) (lineFails k) = ⊥
+When D (witness W) lastNotEmpty = ⊥
+When D (proof lines) detectable = EachFollows D lines × (lastEmpty lines ≡ true)
+When D (proof lines) (lineFails k) = Lowest (Fails D lines) k
+When D (proof lines) lastNotEmpty = EachFollows D lines × (lastEmpty lines ≡ false)
+When D (proof lines) opaque = ⊥
+When D (proof lines) (probeDiffers k) = ⊥
+When D (proof lines) secretTrue = ⊥
+
+abbrev pub Demand2 : Type 0
+Demand2 = (D : Dossier) (c : Certificate) (o : Outcome) → (judge D c ≡ o) ↔ When D c o
+
+-- an accepted witness shows the secret opaque
+abbrev pub WitnessShows : Type 0
+WitnessShows = (D : Dossier) (W : Policy) → WitnessAccepted D W → Opaque D
+
+-- ---- Demand 3, over demand 2's acceptance
+
+pub record Demand3 : Type 0 where
+  -- "every policy of any length with D's visible clauses and D's probe answers makes the secret true"
+  pub every : (D : Dossier) (lines : List Line) → ProofAccepted D lines → Detectable D
+  -- "the proof is accepted for E"
+  pub proofStays : (D E : Dossier) → Extends D E → WellNamed D → (lines : List Line) → ProofAccepted D lines → ProofAccepted E lines
+  -- "and no witness is"
+  pub noWitness : (D E : Dossier) → Extends D E → WellNamed D → (lines : List Line) → ProofAccepted D lines → (W : Policy) → WitnessAccepted E W → ⊥
+  -- "Where no mark differs, a witness accepted for E is accepted for D."
+  pub witnessStays : (D E : Dossier) → Extends D E → WellNamed D → E .clauses ≡ D .clauses → (W : Policy) → WitnessAccepted E W → WitnessAccepted D W

@@ -1,0 +1,9 @@
+pub mod Tests
+pub mod Policy
+pub mod Formula
+pub mod Papers
+pub mod Looks
+pub mod Rules
+pub mod Verdict
+pub mod Extends
+pub mod Demands

@@ -1,0 +1,56 @@
+-- The judge's outcome on decoded papers (01, "What the reply says": 14 to 17, opaque and detectable).
+use mathlib.Core.Path.{_≡_}
+use mathlib.Core.Bool.{Bool, not}
+use mathlib.Core.List.{List, _++_}
+use mathlib.Core.Option.{Option, none, some}
+use Prim.Native.Nat.{ℕ, _-_}
+use lib.ListN.{length}
+use Rattle.meaning.specs.Tests.{_is_, agree, at, named, choose, lowest}
+use Rattle.meaning.specs.Policy.{Policy}
+use Rattle.meaning.specs.Papers.{Dossier, policy, visible, answer, Line, Certificate, witness, proof}
+use Rattle.meaning.specs.Looks.{aim}
+use Rattle.meaning.specs.Rules.{lineFollows}
+
+pub data Outcome : Type 0 where
+  opaque detectable : Outcome
+  -- 14, with the probe's number
+  probeDiffers : ℕ → Outcome
+  -- 15
+  secretTrue : Outcome
+  -- 16, with the line's number
+  lineFails : ℕ → Outcome
+  -- 17
+  lastNotEmpty : Outcome
+
+-- "The policy tried is these with the dossier's visible clauses."
+unfoldable pub tried : Dossier → Policy → Policy
+tried D W = W ++ visible D
+
+-- the policy tried answers probe k as the dossier's policy does
+unfoldable pub probeAgrees : Dossier → Policy → ℕ → Bool
+probeAgrees D W k = named (at (D .probes) k) λ e. agree (answer D (tried D W) e) (answer D (policy D) e)
+
+-- the last line is empty
+unfoldable pub lastEmpty : List Line → Bool
+lastEmpty lines = named (at lines (length lines - 1)) λ l. length (l .literals) is 0
+
+-- the lowest that is at fault; with none, by the last test
+unfoldable pub decide : Option ℕ → (ℕ → Outcome) → Bool → Outcome → Outcome → Outcome
+decide (some k) fails b good bad = fails k
+decide none fails b good bad = choose b good bad
+
+-- "In meaning: lowest probe, then secret; or lowest line, then 17."
+unfoldable pub judge : Dossier → Certificate → Outcome
+judge D (witness W) =
+    decide (lowest (probeAgrees D W) 0 (length (D .probes))) probeDiffers
+    (agree (answer D (tried D W) (D .secret)) (not (aim D))) opaque secretTrue
+judge D (proof lines) =
+    decide (lowest (lineFollows D lines) 0 (length lines)) lineFails
+    (lastEmpty lines) detectable lastNotEmpty
+
+-- what the demands call accepted
+abbrev pub WitnessAccepted : Dossier → Policy → Type 0
+WitnessAccepted D W = judge D (witness W) ≡ opaque
+
+abbrev pub ProofAccepted : Dossier → List Line → Type 0
+ProofAccepted D lines = judge D (proof lines) ≡ detectable
