@@ -1,0 +1,6 @@
+pub mod Place
+pub mod Formula
+pub mod Seen
+pub mod SeenEntry
+pub mod SeenLine
+pub mod Decoded

@@ -1,0 +1,9 @@
+pub mod Code
+pub mod Form
+pub mod Place
+pub mod Clause
+pub mod Formula
+pub mod Line
+pub mod Thing
+pub mod Layout
+pub mod Promise

@@ -1,0 +1,4 @@
+pub mod Out
+pub mod Read
+pub mod Answer
+pub mod Code
