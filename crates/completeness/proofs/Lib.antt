@@ -1,0 +1,12 @@
+pub mod Lists
+pub mod Tree
+pub mod Statements
+pub mod Model
+pub mod Leaf
+pub mod Complete
+pub mod Example
+pub mod Uses
+pub mod Sample
+pub mod Values
+pub mod Needed
+pub mod Sound

@@ -1,0 +1,5 @@
+pub mod Form
+pub mod Complete
+pub mod Needed
+pub mod Example
+pub mod Sound
