@@ -1,0 +1,22 @@
+-- What the reader promises of a dossier, each as a type; proofs/Promise.antt has each under the same name in small letters.
+use Prim.Native.Nat.{ℕ}
+use mathlib.Core.Path.{_≡_}
+use mathlib.Core.List.{List}
+use lib.ListN.{length}
+use Rattle.words.specs.Out.{got}
+use Rattle.meaning.specs.Papers.{Dossier}
+use Rattle.promise.specs.Code.{codeDossier}
+use Rattle.promise.specs.Form.{DossierForm}
+use Rattle.dossier.specs.Read.{dossier}
+
+-- What is accepted is the code of a well-formed dossier, to the last word.
+abbrev pub DossierSound : Type 0
+DossierSound = (ws : List ℕ) (D : Dossier) (p : ℕ) → dossier ws ≡ got D p → (ws ≡ codeDossier D) × DossierForm D
+
+-- Every well-formed dossier's code is accepted, with that value.
+abbrev pub DossierAccepted : Type 0
+DossierAccepted = (D : Dossier) → DossierForm D → dossier (codeDossier D) ≡ got D (length (codeDossier D))
+
+-- Two well-formed dossiers never have the same words.
+abbrev pub DossierOnce : Type 0
+DossierOnce = (D E : Dossier) → DossierForm D → DossierForm E → codeDossier D ≡ codeDossier E → D ≡ E
