@@ -65,7 +65,7 @@ module _ (D : Dossier) where
 
 -- ---- the joined policy
 
-chosen-at : (cs : List Clause) (S : List ℕ) {d : Clause} → d ∈ chosen cs S → (i : ℕ) × i ∈ S × (at cs i ≡ some d)
+pub chosen-at : (cs : List Clause) (S : List ℕ) {d : Clause} → d ∈ chosen cs S → (i : ℕ) × i ∈ S × (at cs i ≡ some d)
 unfolding chosen pick
 chosen-at cs [] m = absurd (List·Memᴰ·not-nil m)
 chosen-at cs (i ∷ S) {d} m = go (at cs i) refl m (λ k. chosen-at cs S k)

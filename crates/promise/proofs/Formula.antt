@@ -9,7 +9,8 @@ use Rattle.meaning.specs.Tests.{_is_, choose}
 use Rattle.meaning.specs.Formula.{Reading, read}
 use Rattle.promise.specs.Formula.{formulaAt, formulaEnd, FormulaFits}
 
-deep : (n d : ℕ) (ws : List ℕ) (p : ℕ) → FormulaFits n d ws p → d ≡ suc (d - 1)
+-- it is at least one deep
+pub deep : (n d : ℕ) (ws : List ℕ) (p : ℕ) → FormulaFits n d ws p → d ≡ suc (d - 1)
 unfolding FormulaFits
 deep n zero ws p f = absurd f
 deep n (suc d) ws p f = omega arith

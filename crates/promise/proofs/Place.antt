@@ -1,8 +1,8 @@
 -- Laws of things that lie one after the other, and of tables filled from their start.
 use Prim.Native.Nat.{ℕ, zero, suc, _+_, _-_, _<_, _≤_}
-use mathlib.Core.Path.{_≡_, refl, sym, ap, _∙_}
+use mathlib.Core.Path.{_≡_, refl, sym, ap, _∙_, subst}
 use mathlib.Core.Bool.{Bool, true, false}
-use mathlib.Core.List.{List, [], _∷_, _++_, append-assoc, List·Memᴰ·head, List·Memᴰ·tail}
+use mathlib.Core.List.{List, [], _∷_, _++_, append-assoc, List·Memᴰ·head, List·Memᴰ·tail, List·Memᴰ·not-nil}
 use mathlib.Core.Option.{none, some}
 use native.Mathlib.Omega.{arith}
 use native.Mathlib.Numerals.{add-one}
@@ -87,6 +87,13 @@ module _ {A : Type 0} (K : Kind A) (ws : List ℕ) where
   unfolding many
   many-length p zero = refl
   many-length p (suc k) = ap suc (many-length (K .next ws p) k)
+
+  -- what holds of whatever fits holds of each of them
+  pub fit-each : (Q : A → Type 0) → ((q : ℕ) → K .ok ws q → Q (K .read ws q)) → (p k : ℕ) → Fit K ws p k → (x : A) → x ∈ many K ws p k → Q x
+  unfolding many Fit place
+  fit-each Q g p (suc k) f x (List·Memᴰ·head e) = subst Q (sym e) (g p (f 0 (omega arith)))
+  fit-each Q g p (suc k) f x (List·Memᴰ·tail m) = fit-each Q g (K .next ws p) k (λ j h. rw (place-next (K .next ws) p j) (f (suc j) (omega arith))) x m
+  fit-each Q g p zero f x m = absurd (List·Memᴰ·not-nil m)
 
   -- thing j, and that there is none
   pub many-at : (p k j : ℕ) → j < k → at (many K ws p k) j ≡ some (K .read ws (place (K .next ws) p j))

@@ -69,5 +69,6 @@ module _ (n : ℕ) (small : n ≤ 256) where
               ends = rw z (ends-within ws p (codeEntry e) rest (omega arith) w);
               creds = λ x i. f .creds .below x (subst (λ (l : List ℕ). x ∈ l) (s .that) i);
               formula = t .fits;
+              form = rw (t .that) (f .formula);
             };
       }

@@ -7,6 +7,7 @@ use lib.ListN.{length, getD}
 use Rattle.meaning.specs.Tests.{_∈_, _is_, choose}
 use Rattle.meaning.specs.Formula.{Formula, always, atom, neg, conj, disj}
 use Rattle.meaning.specs.Papers.{Entry}
+use Rattle.promise.specs.Form.{FormulaForm}
 use Rattle.promise.specs.Place.{part, Kind}
 use Rattle.promise.specs.declared.EntryAt.{EntryAt}
 
@@ -57,6 +58,7 @@ pub record EntryFits (n m : ℕ) (ws : List ℕ) (p : ℕ) : Type 0 where
   pub ends : entryAt ws p .next ≤ length ws
   pub creds : (x : ℕ) → x ∈ part ws (entryAt ws p .creds) (entryAt ws p .count) → x < m
   pub formula : FormulaFits n 16 ws (entryAt ws p .formula)
+  pub form : FormulaForm n 16 (formulaAt 16 ws (entryAt ws p .formula))
 
 abbrev pub entry : ℕ → ℕ → Kind Entry
 entry n m = record { read = λ ws p. entryOf ws (entryAt ws p); next = λ ws p. entryAt ws p .next; ok = EntryFits n m }

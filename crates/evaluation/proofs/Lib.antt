@@ -1,0 +1,4 @@
+pub mod Firing
+pub mod Copying
+pub mod Rounds
+pub mod Entry
