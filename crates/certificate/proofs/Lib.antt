@@ -1,0 +1,9 @@
+pub mod Items
+pub mod Same
+pub mod Several
+pub mod Literals
+pub mod Lines
+pub mod Whole
+pub mod Shown
+pub mod Refusals
+pub mod Promise
