@@ -345,7 +345,7 @@ pub fn answer_at(d: &[u16], o: Layout, creds: &[usize], w: &[u16], which: Which,
 }
 
 // An answer as a word: 0, 1, or 2 where there is none.
-fn word_of(a: Answer) -> u16
+pub fn word_of(a: Answer) -> u16
     ensures { λ r. ⌜ r ≡ wordOf a ⌝ }
 {
     match a {

@@ -104,6 +104,8 @@ module _ (D : Dossier) (f : DossierForm D) where
   laid =
       record {
         atoms = f .few;
+        fewClauses = f .fewClauses;
+        fewCreds = f .fewCreds;
         few = f .fewProbes;
         clauses = clauses-there .fit;
         creds = creds-there .fit;
@@ -122,4 +124,4 @@ certificateDecoded n m (witness W) f =
     (ap {B = Certificate} witness (s .that), s .fit)
 certificateDecoded n m (proof lines) f =
     let s = see-many line codeLine (LineForm n m) (lines-seen n m) (codeCertificate (proof lines)) 2 lines [] (sym (append-nil (codeAll codeLine lines))) (f .parts .2) in
-    (ap {B = Certificate} proof (s .that), s .fit)
+    (ap {B = Certificate} proof (s .that), (f .parts .0, f .parts .1, s .fit))

@@ -58,6 +58,8 @@ dossierAt ws o =
 -- the words of each section are there
 pub record Laid (ws : List ℕ) (o : Layout) : Type 0 where
   pub atoms : o .atoms ≤ 64
+  pub fewClauses : o .nclauses ≤ 128
+  pub fewCreds : o .ncreds ≤ 32
   pub few : o .nprobes ≤ 64
   pub clauses : Fit (marked (o .atoms)) ws (o .clauses) (o .nclauses)
   pub creds : Fit (credential (o .atoms)) ws (o .creds) (o .ncreds)
@@ -71,4 +73,4 @@ certificateAt n ws (Proof k) = proof (many line ws 2 k)
 
 unfoldable pub Proposed : ℕ → List ℕ → Proposal → Type 0
 Proposed n ws (Witness k) = Fit (credential n) ws 2 k
-Proposed n ws (Proof k) = Fit line ws 2 k
+Proposed n ws (Proof k) = (1 ≤ k) × (k ≤ 1024) × Fit line ws 2 k

@@ -1,0 +1,5 @@
+pub mod Step
+pub mod Names
+pub mod Value
+pub mod Rules
+pub mod Tables

@@ -1,0 +1,4 @@
+pub mod Named
+pub mod Tri
+pub mod Asks
+pub mod Ready

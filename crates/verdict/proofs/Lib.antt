@@ -1,0 +1,4 @@
+pub mod Lowest
+pub mod Papers
+pub mod Outcome
+pub mod Tables

@@ -1,0 +1,181 @@
+-- From what the searches find to the judge's outcome and its reply.
+use Prim.Native.Nat.{ℕ, _-_, _<_, _≤_}
+use mathlib.Core.Path.{_≡_, refl, sym, ap, _∙_}
+use mathlib.Core.Bool.{Bool, true, false, not}
+use mathlib.Core.List.{List}
+use mathlib.Core.Option.{Option, none, some}
+use native.Mathlib.Omega.{arith}
+use lib.ListN.{length, getD}
+use Rattle.meaning.specs.Tests.{agree, at, named, choose, lowest, _is_}
+use Rattle.meaning.specs.Looks.{aim}
+use Rattle.meaning.specs.Policy.{Policy}
+use Rattle.meaning.specs.Papers.{Dossier, Line, answer, witness, proof}
+use Rattle.meaning.specs.Rules.{lineFollows}
+use Rattle.meaning.specs.Verdict.{Outcome, opaque, detectable, probeDiffers, secretTrue, lineFails, lastNotEmpty, tried, probeAgrees, lastEmpty, decide, judge}
+use Rattle.promise.specs.Place.{many, place, Starts}
+use Rattle.promise.specs.Clause.{credential}
+use Rattle.promise.specs.Formula.{entry}
+use Rattle.promise.specs.Line.{literal, lineAt, line}
+use Rattle.promise.specs.Thing.{nextOf}
+use Rattle.promise.specs.Layout.{dossierAt}
+use Rattle.promise.specs.declared.Layout.{Layout}
+use Rattle.promise.specs.declared.Thing.the-variants as thing
+use Rattle.promise.proofs.Place.{many-at, many-length}
+use Rattle.reply.specs.Answer.{accepted}
+use Rattle.reply.specs.declared.Reply.{Reply}
+use Rattle.reply.specs.declared.Paper.the-variants as paper
+use Rattle.reply.specs.declared.Verdict.the-variants as said
+use Rattle.evaluation.specs.Which.{Ready, policyAt}
+use Rattle.evaluation.specs.Answer.{answerOf, asAnswer, wordOf}
+use Rattle.evaluation.specs.declared.Answer.{Answer}
+use Rattle.evaluation.specs.declared.Answer.the-variants.{No, Yes, Unsettled}
+use Rattle.evaluation.specs.declared.Which.the-variants.{Tried}
+use Rattle.evaluation.proofs.Entry.{answer-sure}
+use Rattle.verdict.specs.Told.{showing, replyAt, asFault, ProbeStarts}
+use Rattle.verdict.specs.declared.Fault.{Fault}
+use Rattle.verdict.specs.declared.Fault.the-variants as fault
+use Rattle.verdict.proofs.Lowest.{lowest-below}
+
+-- ---- what a search answers
+
+found : Fault → Option ℕ
+found fault.Nowhere = none
+found (fault.At j) = some j
+found fault.Unsettled = none
+
+kind : Fault → ℕ
+kind fault.Nowhere = 0
+kind (fault.At j) = 1
+kind fault.Unsettled = 2
+
+found-back : (x : Option ℕ) → found (asFault x) ≡ x
+unfolding asFault found
+found-back none = refl
+found-back (some j) = refl
+
+settled : (x : Option ℕ) → kind (asFault x) ≡ 2 → ⊥
+unfolding asFault kind
+settled none e = omega arith
+settled (some j) e = omega arith
+
+pub fault-settled : (x : Option ℕ) {f : Fault} → f ≡ asFault x → f ≡ fault.Unsettled → ⊥
+unfolding kind
+fault-settled x e h = settled x (ap kind (sym e ∙ h))
+
+module _ {x : Option ℕ} {f : Fault} (e : f ≡ asFault x) where
+  pub fault-at : {j : ℕ} → f ≡ fault.At j → x ≡ some j
+  unfolding found
+  fault-at h = sym (found-back x) ∙ ap found (sym e ∙ h)
+
+  pub fault-none : f ≡ fault.Nowhere → x ≡ none
+  unfolding found
+  fault-none h = sym (found-back x) ∙ ap found (sym e ∙ h)
+
+-- ---- a witness
+
+module _ (d : List ℕ) (o : Layout) (w : List ℕ) (k : ℕ) where
+  D : Dossier
+  D = dossierAt d o
+
+  W : Policy
+  W = many (credential (o .atoms)) w 2 k
+
+  module _ {f : Fault} (e : f ≡ asFault (lowest (probeAgrees (dossierAt d o) (many (credential (o .atoms)) w 2 k)) 0 (o .nprobes))) where
+    probes-many : length (D .probes) ≡ o .nprobes
+    unfolding D dossierAt
+    probes-many = many-length (entry (o .atoms) (o .ncreds)) d (o .probes) (o .nprobes)
+
+    pub probe-below : {j : ℕ} → f ≡ fault.At j → j < o .nprobes
+    probe-below h = lowest-below _ _ _ (fault-at e h)
+
+    pub witness-differs : {j : ℕ} {r : Reply} (probes : List ℕ) → ProbeStarts d o probes → f ≡ fault.At j → r ≡ showing 14 paper.Dossier thing.Entry d (getD probes j 0) → r ≡ replyAt d o w k (judge (dossierAt d o) (witness (many (credential (o .atoms)) w 2 k)))
+    unfolding judge decide replyAt nextOf D
+    witness-differs {j} {r} probes s h g =
+        let out : lowest (probeAgrees D (many (credential (o .atoms)) w 2 k)) 0 (length (D .probes)) ≡ some j = ap (λ (n : ℕ). lowest (probeAgrees D (many (credential (o .atoms)) w 2 k)) 0 n) probes-many ∙ fault-at e h in
+        g ∙ ap (λ (p : ℕ). showing 14 paper.Dossier thing.Entry d p) (s .each j (probe-below h))
+        ∙ ap (λ (x : Option ℕ). replyAt d o w k (decide x probeDiffers (agree (answer D (tried D (many (credential (o .atoms)) w 2 k)) (D .secret)) (not (aim D))) opaque secretTrue)) (sym out)
+
+    pub witness-alike : {r : Reply} → f ≡ fault.Nowhere → r ≡ replyAt d o w k (choose (agree (answer (dossierAt d o) (tried (dossierAt d o) (many (credential (o .atoms)) w 2 k)) (dossierAt d o .secret)) (not (aim (dossierAt d o)))) opaque secretTrue)
+        → r ≡ replyAt d o w k (judge (dossierAt d o) (witness (many (credential (o .atoms)) w 2 k)))
+    unfolding judge decide D
+    witness-alike {r} h g =
+        let out : lowest (probeAgrees D (many (credential (o .atoms)) w 2 k)) 0 (length (D .probes)) ≡ none = ap (λ (n : ℕ). lowest (probeAgrees D (many (credential (o .atoms)) w 2 k)) 0 n) probes-many ∙ fault-none e h in
+        g ∙ ap (λ (x : Option ℕ). replyAt d o w k (decide x probeDiffers (agree (answer D (tried D (many (credential (o .atoms)) w 2 k)) (D .secret)) (not (aim D))) opaque secretTrue)) (sym out)
+
+  -- the secret: its answer is No, or Yes
+  by-secret : {a : Answer} {r : Reply} (b : Bool) → a ≡ asAnswer false b → ((a ≡ No) × (r ≡ accepted said.Opaque)) → r ≡ replyAt d o w k (choose (agree b (not (aim (dossierAt d o)))) opaque secretTrue)
+  unfolding asAnswer replyAt choose agree aim
+  by-secret true e (h, g) = absurd (let z : _≡_ {A = ℕ} 1 0 = ap wordOf (sym e ∙ h) in omega arith)
+  by-secret false e (h, g) = g
+
+  by-secret-true : {a : Answer} {r : Reply} (b : Bool) → a ≡ asAnswer false b → ((a ≡ Yes) × (r ≡ showing 15 paper.Dossier thing.Entry d (o .secret))) → r ≡ replyAt d o w k (choose (agree b (not (aim (dossierAt d o)))) opaque secretTrue)
+  unfolding asAnswer replyAt choose agree aim
+  by-secret-true true e (h, g) = g
+  by-secret-true false e (h, g) = absurd (let z : _≡_ {A = ℕ} 0 1 = ap wordOf (sym e ∙ h) in omega arith)
+
+  unsettled-not : {a : Answer} (b : Bool) → a ≡ asAnswer false b → a ≡ Unsettled → ⊥
+  unfolding asAnswer
+  unsettled-not true e h = let z : _≡_ {A = ℕ} 1 2 = ap wordOf (sym e ∙ h) in omega arith
+  unsettled-not false e h = let z : _≡_ {A = ℕ} 0 2 = ap wordOf (sym e ∙ h) in omega arith
+
+  module _ (creds : List ℕ) (ready : Ready d o creds w (Tried k)) {a : Answer} (e : a ≡ answerOf d o w (Tried k) (o .secret)) where
+    told : a ≡ asAnswer false (answer (dossierAt d o) (tried (dossierAt d o) (many (credential (o .atoms)) w 2 k)) (dossierAt d o .secret))
+    unfolding policyAt dossierAt
+    told = e ∙ answer-sure d o creds w (Tried k) ready (o .secret) (ready .laid .secret)
+
+    abbrev Judged : Reply → Type 0
+    Judged r = r ≡ replyAt d o w k (choose (agree (answer (dossierAt d o) (tried (dossierAt d o) (many (credential (o .atoms)) w 2 k)) (dossierAt d o .secret)) (not (aim (dossierAt d o)))) opaque secretTrue)
+
+    pub secret-no : {r : Reply} → a ≡ No → r ≡ accepted said.Opaque → Judged r
+    secret-no h g = by-secret _ told (h, g)
+
+    pub secret-yes : {r : Reply} → a ≡ Yes → r ≡ showing 15 paper.Dossier thing.Entry d (o .secret) → Judged r
+    secret-yes h g = by-secret-true _ told (h, g)
+
+    pub secret-settled : a ≡ Unsettled → ⊥
+    secret-settled h = unsettled-not _ told h
+
+-- ---- a proof
+
+module _ (d : List ℕ) (o : Layout) (s lines : List ℕ) (k : ℕ) (t : Starts (line .next s) 2 k lines) {f : Fault} (e : f ≡ asFault (lowest (lineFollows (dossierAt d o) (many line s 2 k)) 0 k)) where
+  proposed : List Line
+  proposed = many line s 2 k
+
+  lines-many : length proposed ≡ k
+  unfolding proposed
+  lines-many = many-length line s 2 k
+
+  by-lines : Option ℕ → Outcome
+  by-lines x = decide x lineFails (lastEmpty proposed) detectable lastNotEmpty
+
+  pub line-below : {j : ℕ} → f ≡ fault.At j → j < k
+  line-below h = lowest-below _ _ _ (fault-at e h)
+
+  pub proof-fails : {j : ℕ} {r : Reply} → f ≡ fault.At j → r ≡ showing 16 paper.Certificate thing.Line s (getD lines j 0) → r ≡ replyAt d o s k (judge (dossierAt d o) (proof (many line s 2 k)))
+  unfolding judge decide replyAt nextOf proposed by-lines
+  proof-fails {j} {r} h g =
+      let out : lowest (lineFollows (dossierAt d o) proposed) 0 (length proposed) ≡ some j = ap (λ (n : ℕ). lowest (lineFollows (dossierAt d o) proposed) 0 n) lines-many ∙ fault-at e h in
+      g ∙ ap (λ (p : ℕ). showing 16 paper.Certificate thing.Line s p) (t .each j (line-below h)) ∙ ap (λ (x : Option ℕ). replyAt d o s k (by-lines x)) (sym out)
+
+  last-is : 1 ≤ k → lastEmpty proposed ≡ (lineAt s (place (line .next s) 2 (k - 1)) .count is 0)
+  unfolding lastEmpty named proposed
+  last-is h =
+      let z : k - 1 < k = omega arith in
+      ap (λ (n : ℕ). named (at proposed (n - 1)) (λ l. length (l .literals) is 0)) lines-many
+      ∙ ap (λ (x : Option Line). named x (λ l. length (l .literals) is 0)) (many-at line s 2 k (k - 1) z)
+      ∙ ap (λ (n : ℕ). n is 0) (many-length literal s (lineAt s (place (line .next s) 2 (k - 1)) .literals) (lineAt s (place (line .next s) 2 (k - 1)) .count))
+
+  by-last : (b : Bool) → choose b (accepted said.Detectable) (showing 17 paper.Certificate thing.Line s (place (line .next s) 2 (k - 1))) ≡ replyAt d o s k (choose b detectable lastNotEmpty)
+  unfolding choose replyAt nextOf
+  by-last true = refl
+  by-last false = refl
+
+  pub proof-last : {r : Reply} → 1 ≤ k → f ≡ fault.Nowhere → r ≡ choose (lineAt s (getD lines (k - 1) 0) .count is 0) (accepted said.Detectable) (showing 17 paper.Certificate thing.Line s (getD lines (k - 1) 0)) → r ≡ replyAt d o s k (judge (dossierAt d o) (proof (many line s 2 k)))
+  unfolding judge decide proposed by-lines
+  proof-last {r} h i g =
+      let z : k - 1 < k = omega arith in
+      let out : lowest (lineFollows (dossierAt d o) proposed) 0 (length proposed) ≡ none = ap (λ (n : ℕ). lowest (lineFollows (dossierAt d o) proposed) 0 n) lines-many ∙ fault-none e i in
+      g ∙ ap (λ (p : ℕ). choose (lineAt s p .count is 0) (accepted said.Detectable) (showing 17 paper.Certificate thing.Line s p)) (t .each (k - 1) z)
+      ∙ by-last (lineAt s (place (line .next s) 2 (k - 1)) .count is 0)
+      ∙ ap (λ (b : Bool). replyAt d o s k (choose b detectable lastNotEmpty)) (sym (last-is h))
+      ∙ ap (λ (x : Option ℕ). replyAt d o s k (by-lines x)) (sym out)

@@ -1,0 +1,76 @@
+-- `verdict::first_failing` meets its contract. The invariant: the whole search is the search from i on.
+use Prim.Native.Nat.{_-_}
+use Rattle.meaning.specs.Rules.{lineFollows}
+use Rattle.promise.specs.Layout.{dossierAt}
+use Rattle.promise.specs.Line.{line}
+use Rattle.promise.specs.Place.{many}
+use Rattle.verdict.proofs.Lowest.{From, from-start, from-next, from-fault, from-end}
+use Rattle.verdict.proofs.Papers.{line-fits, earlier-fit, earlier-starts, line-at}
+use Rattle.verdict.specs.Told.{asFault}
+use borrow.Author.Needs.{needs}
+use borrow.Author.Tests.{not-true, not-false}
+use mathlib.Core.Path.{sym, ap, _∙_}
+use native.Mathlib.Omega.{arith}
+use Rattle.verdict.proofs.first_failing.Statement.{statement}
+use Rattle.verdict.proofs.first_failing.Tie as tie
+
+abbrev Inv-loop : tie.InvT-loop
+Inv-loop d o clauses creds probes told s lines k i₀ i = From (lineFollows (dossierAt d o) (many line s 2 k)) k i
+
+abbrev μ-loop : tie.MeasureT-loop
+μ-loop d o clauses creds probes told s lines k i₀ i = k - i
+
+loop-holds : tie.Need-loop-holds Inv-loop μ-loop
+loop-holds c =
+    let a = c .before .before .before .before .before .before .before .args in
+    from-start (lineFollows (dossierAt (a .d .now) (a .o)) (many line (a .s .now) 2 (a .k))) (a .k)
+
+mul-line-follows : tie.Need-mul-line-follows Inv-loop μ-loop
+mul-line-follows c = search needs
+
+shared-slice-read-line-follows : tie.Need-shared-slice-read-line-follows Inv-loop μ-loop
+shared-slice-read-line-follows c = omega (arith, c .before .before .before .before .before .before .before .before .before .before .pre .1 .long)
+
+line-follows-requires : tie.Need-line-follows-requires Inv-loop μ-loop
+line-follows-requires c κs =
+    let a = c .before .before .before .before .before .before .before .before .before .before .args in
+    (c .before .before .before .before .before .before .before .before .before .before .pre .0, earlier-starts (a .d .now) (a .o) (a .s .now) (a .lines .now) (a .k) (c .before .before .before .before .before .before .before .before .before .before .pre .1) (c .before .before .loop .i) (c .before .loop-test .taken), earlier-fit (a .d .now) (a .o) (a .s .now) (a .lines .now) (a .k) (c .before .before .before .before .before .before .before .before .before .before .pre .1) (c .before .before .loop .i) (c .before .loop-test .taken) (c .before .before .before .before .before .before .before .before .before .before .pre .2), line-fits (a .d .now) (a .o) (a .s .now) (a .lines .now) (a .k) (c .before .before .before .before .before .before .before .before .before .before .pre .1) (c .before .before .loop .i) (c .before .loop-test .taken) (c .before .before .before .before .before .before .before .before .before .before .pre .2))
+
+returns : tie.Need-returns Inv-loop μ-loop
+unfolding asFault
+returns c =
+    let a = c .before .before .before .before .before .before .before .before .before .before .before .before .args in
+    sym (ap asFault (from-fault (lineFollows (dossierAt (a .d .now) (a .o)) (many line (a .s .now) 2 (a .k))) (a .k) (c .before .before .before .before .loop .i) (c .before .before .before .before .loop .inv) (c .before .before .before .loop-test .taken) (sym (line-at (a .d .now) (a .o) (a .s .now) (a .lines .now) (a .k) (c .before .before .before .before .before .before .before .before .before .before .before .before .pre .1) (c .before .before .before .before .loop .i) (c .before .before .before .loop-test .taken) (c .before .line-follows .ensures)) ∙ not-true _ (c .if1 .taken))))
+
+add-i : tie.Need-add-i Inv-loop μ-loop
+add-i c = search needs
+
+loop-less : tie.Need-loop-less Inv-loop μ-loop
+loop-less c = search needs
+
+loop-again : tie.Need-loop-again Inv-loop μ-loop
+loop-again c =
+    let a = c .before .before .before .before .before .before .before .before .before .before .before .before .args in
+    from-next (lineFollows (dossierAt (a .d .now) (a .o)) (many line (a .s .now) 2 (a .k))) (a .k) (c .before .before .before .before .loop .i) (c .before .before .before .before .loop .inv) (c .before .before .before .loop-test .taken) (sym (line-at (a .d .now) (a .o) (a .s .now) (a .lines .now) (a .k) (c .before .before .before .before .before .before .before .before .before .before .before .before .pre .1) (c .before .before .before .before .loop .i) (c .before .before .before .loop-test .taken) (c .before .line-follows .ensures)) ∙ not-false _ (c .if1 .left))
+
+returns-2 : tie.Need-returns-2 Inv-loop μ-loop
+unfolding asFault
+returns-2 c =
+    let a = c .before .before .before .before .before .before .before .before .before .args in
+    sym (ap asFault (from-end (lineFollows (dossierAt (a .d .now) (a .o)) (many line (a .s .now) 2 (a .k))) (a .k) (c .before .loop .i) (c .before .loop .inv) (omega arith)))
+
+pub first-failing-spec : {M : Type 1} → statement M
+first-failing-spec =
+    tie.close
+    (tie.spec
+    Inv-loop
+    μ-loop
+    loop-holds
+    mul-line-follows
+    shared-slice-read-line-follows
+    line-follows-requires
+    returns
+    add-i
+    loop-less
+    loop-again
+    returns-2)

@@ -1,0 +1,49 @@
+-- `verdict::judge_lines` meets its contract: it fills the two tables.
+use Rattle.lines.proofs.Tables.{clauses-filled, lines-filled}
+use Rattle.verdict.proofs.Tables.{clauses-fit, lines-fit, rules-ready}
+use borrow.Author.Needs.{needs}
+use Rattle.verdict.proofs.judge_lines.Statement.{statement}
+use Rattle.verdict.proofs.judge_lines.Tie as tie
+
+slice-aggregate-starts : tie.Need-slice-aggregate-starts
+slice-aggregate-starts c = search needs
+
+starts-requires : tie.Need-starts-requires
+starts-requires c κs =
+    let a = c .before .before .before .before .before .before .args in
+    (clauses-fit (a .d .now) (a .o) (c .before .before .before .before .before .before .pre .0), c .before .before .before .before .before .before .pre .0 .fewClauses)
+
+slice-aggregate-starts-2 : tie.Need-slice-aggregate-starts-2
+slice-aggregate-starts-2 c = search needs
+
+starts-requires-2 : tie.Need-starts-requires-2
+starts-requires-2 c κs =
+    let a = c .before .before .before .before .before .before .before .before .before .args in
+    (lines-fit (a .s .now) (a .k) (c .before .before .before .before .before .before .before .before .before .pre .6), c .before .before .before .before .before .before .before .before .before .pre .5)
+
+slice-aggregate-judge-proof : tie.Need-slice-aggregate-judge-proof
+slice-aggregate-judge-proof c = search needs
+
+slice-aggregate-judge-proof-2 : tie.Need-slice-aggregate-judge-proof-2
+slice-aggregate-judge-proof-2 c = search needs
+
+judge-proof-requires : tie.Need-judge-proof-requires
+judge-proof-requires c κs =
+    let a = c .before .before .before .before .before .before .before .before .before .before .before .before .before .args in
+    (rules-ready (a .d .now) (a .o) (a .told .now) (c .before .before .before .before .before .before .before .before .before .before .before .before .before .pre .3) (c .before .before .before .before .before .before .before .before .before .before .before .before .before .pre .0) (clauses-filled (a .d .now) (a .o) _ (c .before .before .before .before .before .before .starts .ensures) (c .before .before .before .before .before .before .before .before .before .before .before .before .before .pre .0 .fewClauses)) (c .before .before .before .before .before .before .before .before .before .before .before .before .before .pre .1) (c .before .before .before .before .before .before .before .before .before .before .before .before .before .pre .2), lines-filled (a .s .now) (a .k) _ (c .before .before .before .starts2 .ensures) (c .before .before .before .before .before .before .before .before .before .before .before .before .before .pre .5), c .before .before .before .before .before .before .before .before .before .before .before .before .before .pre .6, c .before .before .before .before .before .before .before .before .before .before .before .before .before .pre .4, c .before .before .before .before .before .before .before .before .before .before .before .before .before .pre .5)
+
+returns : tie.Need-returns
+returns c = search needs
+
+pub judge-lines-spec : {M : Type 1} → statement M
+judge-lines-spec =
+    tie.close
+    (tie.spec
+    slice-aggregate-starts
+    starts-requires
+    slice-aggregate-starts-2
+    starts-requires-2
+    slice-aggregate-judge-proof
+    slice-aggregate-judge-proof-2
+    judge-proof-requires
+    returns)

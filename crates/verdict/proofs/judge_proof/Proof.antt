@@ -1,0 +1,94 @@
+-- `verdict::judge_proof` meets its contract.
+use Prim.Native.Nat.{_<_, _-_}
+use Rattle.promise.specs.Thing.{okOf}
+use Rattle.verdict.proofs.Outcome.{fault-settled, line-below, proof-fails, proof-last}
+use Rattle.verdict.proofs.Papers.{line-fits, line-ends}
+use borrow.Author.Needs.{needs, scaled-fits}
+use borrow.Author.Needs.{needs}
+use native.Mathlib.Omega.{arith}
+use Rattle.verdict.proofs.judge_proof.Statement.{statement}
+use Rattle.verdict.proofs.judge_proof.Tie as tie
+
+first-failing-requires : tie.Need-first-failing-requires
+first-failing-requires c κs = search needs
+
+enum-told : tie.Need-enum-told
+enum-told c = search needs
+
+unsettled-requires : tie.Need-unsettled-requires
+unsettled-requires c κs = search needs
+
+enum-known-j : tie.Need-enum-known-j
+enum-known-j c = search needs
+
+mul-refusing : tie.Need-mul-refusing
+mul-refusing c =
+    let a = c .before .before .before .before .before .before .before .before .before .before .before .args in
+    let h = line-below (a .d .now) (a .o) (a .s .now) (a .lines .now) (a .k) (c .before .before .before .before .before .before .before .before .before .before .before .pre .1) (c .before .before .before .first-failing .ensures) (c .before .j .given .1) in
+    let b = c .before .before .before .before .before .before .before .before .before .before .before .pre .4 in
+    scaled-fits _ 1024 8 (omega arith) (omega arith)
+
+shared-slice-read-refusing : tie.Need-shared-slice-read-refusing
+shared-slice-read-refusing c =
+    let a = c .before .before .before .before .before .before .before .before .before .before .before .before .args in
+    omega (arith, c .before .before .before .before .before .before .before .before .before .before .before .before .pre .1 .long, line-below (a .d .now) (a .o) (a .s .now) (a .lines .now) (a .k) (c .before .before .before .before .before .before .before .before .before .before .before .before .pre .1) (c .before .before .before .before .first-failing .ensures) (c .before .before .j .given .1))
+
+refusing-requires : tie.Need-refusing-requires
+unfolding okOf
+refusing-requires c κs =
+    let a = c .before .before .before .before .before .before .before .before .before .before .before .before .args in
+    (line-fits (a .d .now) (a .o) (a .s .now) (a .lines .now) (a .k) (c .before .before .before .before .before .before .before .before .before .before .before .before .pre .1) _ (line-below (a .d .now) (a .o) (a .s .now) (a .lines .now) (a .k) (c .before .before .before .before .before .before .before .before .before .before .before .before .pre .1) (c .before .before .before .before .first-failing .ensures) (c .before .before .j .given .1)) (c .before .before .before .before .before .before .before .before .before .before .before .before .pre .2), line-ends _ _)
+
+enum-told-2 : tie.Need-enum-told-2
+enum-told-2 c = search needs
+
+sub-judge-last : tie.Need-sub-judge-last
+sub-judge-last c = search needs
+
+mul-judge-last : tie.Need-mul-judge-last
+mul-judge-last c = search needs
+
+shared-slice-read-judge-last : tie.Need-shared-slice-read-judge-last
+shared-slice-read-judge-last c = omega (arith, c .before .before .before .before .before .before .before .before .before .before .before .pre .1 .long, c .before .before .before .before .before .before .before .before .before .before .before .pre .3)
+
+judge-last-requires : tie.Need-judge-last-requires
+unfolding okOf
+judge-last-requires c κs =
+    let a = c .before .before .before .before .before .before .before .before .before .before .before .args in
+    let z : a .k - 1 < a .k = omega (arith, c .before .before .before .before .before .before .before .before .before .before .before .pre .3) in
+    line-fits (a .d .now) (a .o) (a .s .now) (a .lines .now) (a .k) (c .before .before .before .before .before .before .before .before .before .before .before .pre .1) _ z (c .before .before .before .before .before .before .before .before .before .before .before .pre .2)
+
+returns : tie.Need-returns
+returns c =
+    let a = c .before .before .before .before .before .before .before .before .before .before .before .args in
+    absurd (fault-settled _ (c .before .before .before .first-failing .ensures) (c .before .enum-told .given .1))
+
+returns-2 : tie.Need-returns-2
+returns-2 c =
+    let a = c .before .before .before .before .before .before .before .before .before .before .before .before .before .args in
+    proof-fails (a .d .now) (a .o) (a .s .now) (a .lines .now) (a .k) (c .before .before .before .before .before .before .before .before .before .before .before .before .before .pre .1) (c .before .before .before .before .before .first-failing .ensures) (c .before .before .before .j .given .1) (c .refusing .ensures)
+
+returns-3 : tie.Need-returns-3
+returns-3 c =
+    let a = c .before .before .before .before .before .before .before .before .before .before .before .before .args in
+    proof-last (a .d .now) (a .o) (a .s .now) (a .lines .now) (a .k) (c .before .before .before .before .before .before .before .before .before .before .before .before .pre .1) (c .before .before .before .before .first-failing .ensures) (c .before .before .before .before .before .before .before .before .before .before .before .before .pre .3) (c .before .before .enum-told2 .given .1) (c .judge-last .ensures)
+
+pub judge-proof-spec : {M : Type 1} → statement M
+judge-proof-spec =
+    tie.close
+    (tie.spec
+    first-failing-requires
+    enum-told
+    unsettled-requires
+    enum-known-j
+    mul-refusing
+    shared-slice-read-refusing
+    refusing-requires
+    enum-told-2
+    sub-judge-last
+    mul-judge-last
+    shared-slice-read-judge-last
+    judge-last-requires
+    returns
+    returns-2
+    returns-3)

@@ -1,0 +1,238 @@
+// The judgement of two sound papers.
+use evaluation::Answer;
+use evaluation::Which;
+use promise::Layout;
+use promise::Proposal;
+use promise::Thing;
+use reply::Paper;
+use reply::Reply;
+use reply::Verdict;
+ghost use mathlib.Core.Path.{_≡_};
+ghost use mathlib.Core.Bool.{not};
+ghost use Prim.Native.Nat.{_≤_, _-_};
+ghost use Rattle.meaning.specs.Tests.{_is_, agree, choose, lowest};
+ghost use Rattle.meaning.specs.Looks.{aim};
+ghost use Rattle.meaning.specs.Papers as papers;
+ghost use Rattle.meaning.specs.Verdict as meant;
+ghost use Rattle.promise.specs.Place.{many, Fit};
+ghost use Rattle.promise.specs.Clause.{credential};
+ghost use Rattle.promise.specs.Layout.{dossierAt, Laid, certificateAt, Proposed};
+ghost use Rattle.promise.specs.Line.{lineAt, line};
+ghost use Rattle.promise.specs.declared.Thing.the-variants as thing;
+ghost use Rattle.meaning.specs.Rules.{lineFollows};
+ghost use Rattle.lines.specs.Ready as rules;
+ghost use Rattle.promise.specs.Thing.{nextOf, okOf};
+ghost use Rattle.evaluation.specs.Which.{Ready};
+ghost use Rattle.evaluation.specs.declared.Which.the-variants.{Tried};
+ghost use Rattle.reply.specs.Answer.{accepted, refused};
+ghost use Rattle.reply.specs.declared.Paper.the-variants as paper;
+ghost use Rattle.reply.specs.declared.Verdict.the-variants as verdict;
+ghost use Rattle.verdict.specs.Told.{showing, replyAt, sizeOf, asFault, ProbeStarts, Told};
+
+// The lowest number at fault, if there is one; or that 64 rounds were not enough.
+pub enum Fault {
+    Nowhere,
+    At(usize),
+    Unsettled,
+}
+
+// An acceptance.
+fn accepting(verdict: Verdict) -> Reply
+    ensures { λ r. ⌜ r ≡ accepted verdict ⌝ }
+{
+    Reply {
+        verdict: verdict,
+        paper: Paper::Certificate,
+        place: 0,
+        count: 0,
+    }
+}
+
+// 19: after 64 rounds one more would still add an atom.
+fn unsettled() -> Reply
+    ensures { λ r. ⌜ r ≡ refused 19 paper.Dossier 0 0 ⌝ }
+{
+    Reply {
+        verdict: Verdict::Refused(19),
+        paper: Paper::Dossier,
+        place: 0,
+        count: 0,
+    }
+}
+
+// The refusal that shows the thing at p.
+fn refusing(number: u16, paper: Paper, thing: Thing, s: &[u16], p: usize) -> Reply
+    requires { ⌜ okOf thing (now s) p × (p ≤ nextOf thing (now s) p) ⌝ }
+    ensures { λ r. ⌜ r ≡ showing number paper thing (now (s .entry)) p ⌝ }
+{
+    let q = promise::next_at(s, p, thing);
+    Reply {
+        verdict: Verdict::Refused(number),
+        paper: paper,
+        place: p,
+        count: q - p,
+    }
+}
+
+// The lowest probe that the policy tried does not answer as the dossier's does.
+fn first_differing(
+    d: &[u16],
+    o: Layout,
+    creds: &[usize],
+    probes: &[usize],
+    told: &[u16],
+    w: &[u16],
+    k: usize,
+) -> Fault
+    requires { ⌜ Ready (now d) o (now creds) (now w) (Tried k) × ProbeStarts (now d) o (now probes) × Told (now d) o (now told) ⌝ }
+    ensures { λ r. ⌜ r ≡ asFault (lowest (meant.probeAgrees (dossierAt (now (d .entry)) o) (many (credential (o .atoms)) (now (w .entry)) 2 k)) 0 (o .nprobes)) ⌝ }
+{
+    let n = o.nprobes;
+    let mut i = 0;
+    while i < n {
+        let a = evaluation::answer_at(d, o, creds, w, Which::Tried(k), probes[i]);
+        let x = evaluation::word_of(a);
+        if x == 2 {
+            return Fault::Unsettled;
+        }
+        if x != told[i] {
+            return Fault::At(i);
+        }
+        i += 1;
+    }
+    Fault::Nowhere
+}
+
+// With every probe answered alike: the secret.
+fn judge_secret(d: &[u16], o: Layout, creds: &[usize], w: &[u16], k: usize) -> Reply
+    requires { ⌜ Ready (now d) o (now creds) (now w) (Tried k) ⌝ }
+    ensures { λ r. ⌜ r ≡ replyAt (now (d .entry)) o (now (w .entry)) k (choose
+        (agree (papers.answer (dossierAt (now (d .entry)) o) (meant.tried (dossierAt (now (d .entry)) o) (many (credential (o .atoms)) (now (w .entry)) 2 k)) (dossierAt (now (d .entry)) o .secret)) (not (aim (dossierAt (now (d .entry)) o))))
+        meant.opaque meant.secretTrue) ⌝ }
+{
+    let p = o.secret;
+    match evaluation::answer_at(d, o, creds, w, Which::Tried(k), p) {
+        Answer::No => accepting(Verdict::Opaque),
+        Answer::Yes => refusing(15, Paper::Dossier, Thing::Entry, d, p),
+        Answer::Unsettled => unsettled(),
+    }
+}
+
+// A witness of k clauses.
+fn judge_witness(
+    d: &[u16],
+    o: Layout,
+    creds: &[usize],
+    probes: &[usize],
+    told: &[u16],
+    w: &[u16],
+    k: usize,
+) -> Reply
+    requires { ⌜ Ready (now d) o (now creds) (now w) (Tried k) × ProbeStarts (now d) o (now probes) × Told (now d) o (now told) ⌝ }
+    ensures { λ r. ⌜ r ≡ replyAt (now (d .entry)) o (now (w .entry)) k (meant.judge (dossierAt (now (d .entry)) o) (papers.witness (many (credential (o .atoms)) (now (w .entry)) 2 k))) ⌝ }
+{
+    match first_differing(d, o, creds, probes, told, w, k) {
+        Fault::Unsettled => unsettled(),
+        Fault::At(j) => refusing(14, Paper::Dossier, Thing::Entry, d, probes[j]),
+        Fault::Nowhere => judge_secret(d, o, creds, w, k),
+    }
+}
+
+// The lowest line that does not follow.
+fn first_failing(
+    d: &[u16],
+    o: Layout,
+    clauses: &[usize],
+    creds: &[usize],
+    probes: &[usize],
+    told: &[u16],
+    s: &[u16],
+    lines: &[usize],
+    k: usize,
+) -> Fault
+    requires { ⌜ rules.Ready (now d) o (now clauses) (now creds) (now probes) (now told) × rules.LineStarts (now s) k (now lines) × Fit line (now s) 2 k ⌝ }
+    ensures { λ r. ⌜ r ≡ asFault (lowest (lineFollows (dossierAt (now (d .entry)) o) (many line (now (s .entry)) 2 k)) 0 k) ⌝ }
+{
+    let mut i = 0;
+    while i < k {
+        if !lines::line_follows(d, o, clauses, creds, probes, told, s, lines, i, lines[i]) {
+            return Fault::At(i);
+        }
+        i += 1;
+    }
+    Fault::Nowhere
+}
+
+// With every line following: the last, at p.
+fn judge_last(s: &[u16], p: usize) -> Reply
+    requires { ⌜ okOf thing.Line (now s) p ⌝ }
+    ensures { λ r. ⌜ r ≡ choose (lineAt (now (s .entry)) p .count is 0) (accepted verdict.Detectable) (showing 17 paper.Certificate thing.Line (now (s .entry)) p) ⌝ }
+{
+    let v = promise::line_at(s, p);
+    if v.count == 0 {
+        accepting(Verdict::Detectable)
+    } else {
+        refusing(17, Paper::Certificate, Thing::Line, s, p)
+    }
+}
+
+// A proof of k lines.
+fn judge_proof(
+    d: &[u16],
+    o: Layout,
+    clauses: &[usize],
+    creds: &[usize],
+    probes: &[usize],
+    told: &[u16],
+    s: &[u16],
+    lines: &[usize],
+    k: usize,
+) -> Reply
+    requires { ⌜ rules.Ready (now d) o (now clauses) (now creds) (now probes) (now told) × rules.LineStarts (now s) k (now lines) × Fit line (now s) 2 k × (1 ≤ k) × (k ≤ 1024) ⌝ }
+    ensures { λ r. ⌜ r ≡ replyAt (now (d .entry)) o (now (s .entry)) k (meant.judge (dossierAt (now (d .entry)) o) (papers.proof (many line (now (s .entry)) 2 k))) ⌝ }
+{
+    match first_failing(d, o, clauses, creds, probes, told, s, lines, k) {
+        Fault::Unsettled => unsettled(),
+        Fault::At(j) => refusing(16, Paper::Certificate, Thing::Line, s, lines[j]),
+        Fault::Nowhere => judge_last(s, lines[k - 1]),
+    }
+}
+
+// The proof of k lines, with the tables that only a proof needs.
+fn judge_lines(
+    d: &[u16],
+    o: Layout,
+    creds: &[usize],
+    probes: &[usize],
+    told: &[u16],
+    s: &[u16],
+    k: usize,
+) -> Reply
+    requires { ⌜ Laid (now d) o × rules.CredStarts (now d) o (now creds) × ProbeStarts (now d) o (now probes) × Told (now d) o (now told) × (1 ≤ k) × (k ≤ 1024) × Fit line (now s) 2 k ⌝ }
+    ensures { λ r. ⌜ r ≡ replyAt (now (d .entry)) o (now (s .entry)) k (meant.judge (dossierAt (now (d .entry)) o) (papers.proof (many line (now (s .entry)) 2 k))) ⌝ }
+{
+    let mut clauses = [0usize; 128];
+    let mut lines = [0usize; 1024];
+    promise::starts(d, o.clauses, o.nclauses, Thing::Clause, &mut clauses);
+    promise::starts(s, 2, k, Thing::Line, &mut lines);
+    judge_proof(d, o, &clauses, creds, probes, told, s, &lines, k)
+}
+
+// The judgement of two sound papers: d has the layout o, and c has that proposal.
+pub fn judge_sound(d: &[u16], o: Layout, c: &[u16], proposal: Proposal) -> Reply
+    requires { ⌜ Laid (now d) o × Proposed (o .atoms) (now c) proposal ⌝ }
+    ensures { λ r. ⌜ r ≡ replyAt (now (d .entry)) o (now (c .entry)) (sizeOf proposal) (meant.judge (dossierAt (now (d .entry)) o) (certificateAt (o .atoms) (now (c .entry)) proposal)) ⌝ }
+{
+    let mut creds = [0usize; 32];
+    let mut probes = [0usize; 64];
+    let mut told = [0u16; 64];
+    promise::starts(d, o.creds, o.ncreds, Thing::Credential, &mut creds);
+    promise::starts(d, o.probes, o.nprobes, Thing::Entry, &mut probes);
+    if !evaluation::answers(d, o, &creds, &probes, c, &mut told) {
+        return unsettled();
+    }
+    match proposal {
+        Proposal::Witness(k) => judge_witness(d, o, &creds, &probes, &told, c, k),
+        Proposal::Proof(k) => judge_lines(d, o, &creds, &probes, &told, c, k),
+    }
+}
