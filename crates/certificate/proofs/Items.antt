@@ -1,7 +1,6 @@
 -- What the readers of statements and literals promise: they accept the codes of well-formed ones, and nothing else.
-use Prim.Native.Nat.{ℕ, _<_}
+use Prim.Native.Nat.{ℕ}
 use mathlib.Core.Path.{_≡_, refl, sym}
-use mathlib.Core.Bool.{Bool, true, false}
 use native.Mathlib.Omega.{arith}
 use Rattle.words.specs.declared.Range.the-variants.{Below}
 use Rattle.words.proofs.Promise.{Reads, reads-as, reads-bind, reads-made, reads-then, reads-ranged, reads-listed}
@@ -9,7 +8,7 @@ use Rattle.meaning.specs.Tests.{_is_}
 use Rattle.promise.specs.Code.{bit, codeStatement, codeLiteral}
 use Rattle.promise.specs.Form.{StatementForm}
 use Rattle.promise.proofs.Seen.{is-bit}
-use Rattle.dossier.proofs.Items.{bit-is}
+use Rattle.dossier.proofs.Items.{bit-is, bit-below}
 use Rattle.certificate.specs.Read.{statement, literal}
 
 pub reads-statement : (n m : ℕ) → Reads (statement n m) codeStatement (StatementForm n m)
@@ -45,7 +44,3 @@ reads-literal n m =
     (reads-then (reads-ranged 0 2 5) (λ g s. record { positive = g is 1; said = s }) (λ l. bit (l .positive)) (λ l. l .said) (λ g s f. bit-is g (f .1)) (λ g s. refl) (λ l. λ i. record { positive = is-bit (l .positive) i; said = l .said }) (λ g f. reads-statement n m))
     (λ l f. refl)
     (λ l. (λ f. f .1, λ f. ((omega arith, bit-below (l .positive)), f)))
-  where
-    bit-below : (b : Bool) → bit b < 2
-    bit-below true = omega arith
-    bit-below false = omega arith

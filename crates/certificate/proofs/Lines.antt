@@ -15,7 +15,8 @@ use Rattle.words.specs.Code.{codeAll, codeMany}
 use Rattle.words.specs.declared.Step.{Step}
 use Rattle.words.specs.declared.Step.the-variants.{Next, Refused}
 use Rattle.words.proofs.Steps.{refused, passed, step-made}
-use Rattle.words.proofs.Promise.{OK, ok-then, ok-made, ok-word, ok-more, In, inGot, inBad, in-then, in-made, Spans, spans-join, lies, past, Reads, reads-as, reads-ranged, reads-times}
+use Rattle.words.proofs.Promise.{OK, ok-then, ok-made, ok-word, ok-more, In, inGot, inBad, Spans, spans-join, lies, past, Reads, reads-as, reads-ranged, reads-times}
+use Rattle.words.proofs.Shown.{told-inside}
 use Rattle.meaning.specs.Tests.{_is_, choose}
 use Rattle.meaning.specs.Papers.{Rule, probe, secret, clause, assumed, credential, cut, without, resolve, Line}
 use Rattle.promise.specs.Code.{codeLiteral, numberOf, dataOf, codeLine}
@@ -25,6 +26,7 @@ use Rattle.promise.proofs.Seen.{first-word, next-words}
 use Rattle.promise.proofs.SeenLine.{data-count, number-some, lines-seen}
 use Rattle.certificate.specs.Read.{literals, line}
 use Rattle.certificate.proofs.Literals.{reads-literals}
+use Rattle.certificate.proofs.Refusals.{Number, told-line}
 
 -- ---- data words: so many are there, or the paper ends before
 
@@ -68,7 +70,7 @@ module _ (n m : ℕ) (ws : List ℕ) (at : ℕ) where
 
 -- ---- what the reader of data words promises: their presence alone is tested
 
-pub reads-word : Reads word (λ x. x ∷ []) (λ x. Unit {0})
+reads-word : Reads word (λ x. x ∷ []) (λ x. Unit {0})
 reads-word =
     record {
       sound = λ ws at. ok-more (ok-word ws at) (λ x p s. (s, tt));
@@ -85,7 +87,7 @@ unfolding codeAll
 code-words [] = refl
 code-words (x ∷ d) = ap (λ l. x ∷ l) (code-words d)
 
-pub reads-data : (k : ℕ) → Reads (times k word) (λ d. d) (λ d. length d ≡ k)
+reads-data : (k : ℕ) → Reads (times k word) (λ d. d) (λ d. length d ≡ k)
 reads-data k = reads-as (reads-times reads-word k) (λ d f. code-words d) (λ d. (λ f. f .0, λ f. (f, λ x i. tt)))
 
 -- the words from p on, as `ruleOf` names them
@@ -137,7 +139,7 @@ number-few (resolve u v i j) = omega arith
 
 pub reads-line : (n m : ℕ) → Reads (line n m) codeLine (LineForm n m)
 unfolding line
-reads-line n m = record { sound = sound; exact = exact; inside = inside }
+reads-line n m = record { sound = sound; exact = exact; inside = λ ws at h. told-inside Number (told-line n m ws at) }
   where
     -- the code of a line whose rule is made of its number and its data words
     code : (ws : List ℕ) (at z r p : ℕ) (d rest tail : List ℕ) → 1 ≤ r → r < 9 → length d ≡ dataCount r → drop p ws ≡ d ++ rest → Spans ws at (r ∷ (d ++ tail)) z → Spans ws at (numberOf (ruleOf ws r p) ∷ (dataOf (ruleOf ws r p) ++ tail)) z
@@ -172,10 +174,3 @@ reads-line n m = record { sound = sound; exact = exact; inside = inside }
         let y : ruleOf ws (numberOf r) (at + 1) ≡ r = ap (λ i. ruleOf ws i (at + 1)) (sym (first-word ws at h)) ∙ ap (λ (j : Line). j .rule) (lines-seen n m ws at l rest h f .that) in
         let z : q + 1 + length (codeAll codeLiteral ls) ≡ at + length (codeLine l) = omega (arith, length-append (dataOf r) tail) in
         simp (a, d, k, x, y) (ap (got l) z)
-
-    inside : (ws : List ℕ) (at : ℕ) → at ≤ length ws → In (length ws) (line n m ws at)
-    inside ws at h =
-        in-then _ (reads-ranged 1 9 12 .inside ws at h) (λ r p i.
-        in-then _ (reads-data (dataCount r) .inside ws p i) (λ d q j.
-        in-then _ (reads-ranged 0 9 2 .inside ws q j) (λ k t o.
-        in-made _ (reads-literals n m k .inside ws t o))))

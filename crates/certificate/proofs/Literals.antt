@@ -1,5 +1,5 @@
 -- What the reader of literals promises: that none speaks of a statement spoken of before (13) is that no two of a line speak of one.
-use Prim.Native.Nat.{ℕ, zero, suc, _+_, _≤_}
+use Prim.Native.Nat.{ℕ, zero, suc, _+_}
 use mathlib.Core.Path.{_≡_, refl, sym, ap, _∙_}
 use mathlib.Core.Bool.{true, false, not}
 use mathlib.Core.List.{List, [], _∷_, _++_, append-assoc, List·Memᴰ·head, List·Memᴰ·tail, List·Memᴰ·not-nil, List·Memᴰ·append-cases, List·Memᴰ·eq-of-singleton, Memᴰ·append-left, Memᴰ·append-right}
@@ -8,7 +8,8 @@ use native.Mathlib.Omega.{arith}
 use lib.ListN.{length, drop, length-append}
 use Rattle.words.specs.Out.{got}
 use Rattle.words.specs.Code.{codeAll}
-use Rattle.words.proofs.Promise.{OK, fine, ok-then, ok-made, ok-need, In, inGot, in-then-ok, in-made, in-need, Spans, spans-none, spans-join, past, Reads, reads-as}
+use Rattle.words.proofs.Promise.{OK, fine, ok-then, ok-made, ok-need, Spans, spans-none, spans-join, past, Reads, reads-as}
+use Rattle.words.proofs.Shown.{told-inside}
 use Rattle.meaning.specs.Tests.{_∈_, same}
 use Rattle.meaning.specs.Papers.{Statement, Literal}
 use Rattle.meaning.specs.Rules.{sameStatement}
@@ -18,6 +19,7 @@ use Rattle.promise.specs.Code.{codeLiteral}
 use Rattle.promise.specs.Form.{StatementForm, Apart}
 use Rattle.certificate.specs.Read.{spoken, literals}
 use Rattle.certificate.proofs.Items.{reads-literal}
+use Rattle.certificate.proofs.Refusals.{Number, told-literals}
 
 -- ---- the test of 13
 
@@ -82,7 +84,7 @@ module _ (n m : ℕ) where
   ok-literals (suc k) before ws at =
       ok-then _ (reads-literal n m .sound ws at) (λ l p s.
       ok-need (not (spoken (l .said) before)) _ _ (λ b.
-      ok-made _ (ok-literals k (before ++ (l ∷ [])) ws p) (λ ls q t.
+      ok-made _ (ok-literals k _ ws p) (λ ls q t.
       (spans-join (s .0) (t .0), (ap suc (t .1 .0), (each-cons (s .1) (t .1 .1 .0), fresh-cons before l ls (not-true _ b) (t .1 .1 .1)))))))
 
   exact-literals : (k : ℕ) (before : List Literal) (ws : List ℕ) (at : ℕ) (ls : List Literal) (rest : List ℕ) → drop at ws ≡ codeAll codeLiteral ls ++ rest → LiteralsForm k before ls → literals n m k before ws at ≡ got ls (at + length (codeAll codeLiteral ls))
@@ -99,17 +101,10 @@ module _ (n m : ℕ) where
       let t = exact-literals k (before ++ (l ∷ [])) ws (at + length a) ls rest (past ws at a i) (omega (arith, f .0), (λ y j. f .1 .0 y (List·Memᴰ·tail j), o .1)) in
       simp (reads-literal n m .exact ws at l (b ++ rest) i (f .1 .0 l (List·Memᴰ·head refl)), o .0, t) (ap (got (l ∷ ls)) z)
 
-  in-literals : (k : ℕ) (before : List Literal) (ws : List ℕ) (at : ℕ) → at ≤ length ws → In (length ws) (literals n m k before ws at)
-  unfolding literals
-  in-literals zero before ws at i = inGot i
-  in-literals (suc k) before ws at i =
-      in-then-ok _ (reads-literal n m .sound ws at) (reads-literal n m .inside ws at i) (λ l p s j.
-      in-need (not (spoken (l .said) before)) _ _ (omega (arith, s .0 .next, j)) (in-made _ (in-literals k (before ++ (l ∷ [])) ws p j)))
-
   -- so many literals of a line
   pub reads-literals : (k : ℕ) → Reads (literals n m k []) (codeAll codeLiteral) (λ ls. (length ls ≡ k) × (((x : Literal) → x ∈ ls → StatementForm n m (x .said)) × Apart ls))
   reads-literals k =
       reads-as
-      (record { sound = ok-literals k []; exact = exact-literals k []; inside = in-literals k [] })
+      (record { sound = ok-literals k []; exact = exact-literals k []; inside = λ ws at h. told-inside Number (told-literals n m ws k [] at h) })
       (λ ls f. refl)
       (λ ls. (λ f. (f .0, (f .1 .0, f .1 .1 .1)), λ f. (f .0, (f .1 .0, ((λ x i y j. absurd (List·Memᴰ·not-nil j)), f .1 .1)))))

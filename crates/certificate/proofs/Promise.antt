@@ -1,7 +1,7 @@
 -- The theorems of specs/Promise.antt, each under its name in small letters.
 use Prim.Native.Nat.{ℕ, _+_, _<_, _≤_}
 use mathlib.Core.Path.{_≡_, refl, sym, ap, _∙_}
-use mathlib.Core.Bool.{Bool, true, false}
+use mathlib.Core.Bool.{Bool, true, false, not}
 use mathlib.Core.List.{List, [], _∷_, _++_, append-nil}
 use mathlib.Core.Logic.{⊎-elim, _↔_}
 use native.Mathlib.Omega.{arith}
@@ -12,6 +12,7 @@ use borrow.Author.Tests.{le-leb, leb-true, eqb-true, eqb-false}
 use Rattle.words.specs.Out.{Out, got, bad, then}
 use Rattle.words.proofs.Promise.{OK, fine, none, ok-then, ok-need, ok-more, ok-got, Spans, spans-join, Reads, reads-ranged, reads-section}
 use Rattle.words.proofs.Parts.{reads-after}
+use Rattle.words.proofs.Shown.{told-bad}
 use Rattle.meaning.specs.Tests.{_∈_, _is_, choose}
 use Rattle.meaning.specs.Policy.{Policy, Clause}
 use Rattle.meaning.specs.Papers.{Line, Certificate, witness, proof}
@@ -23,7 +24,6 @@ use Rattle.dossier.proofs.Items.{reads-clause}
 use Rattle.certificate.specs.Read.{witnessFrom, proofFrom, proposal, certificate}
 use Rattle.certificate.specs.Promise.{CertificateSound, CertificateAccepted, CertificateOnce, CertificateMore, Shows, CertificateShows}
 use Rattle.certificate.proofs.Lines.{reads-line}
-use Rattle.certificate.proofs.Shown.{told-bad}
 use Rattle.certificate.proofs.Refusals.{shown, Number, told-proposal}
 
 -- ---- a reader after the first word, and no word after it; `mk` makes the certificate of what was read
@@ -137,6 +137,11 @@ certificateShows n m ws e p w = go (leb (length ws) 24000)
         Shows.long a b d
     go true q =
         ⊎-elim (λ a. Shows.ended (a .0) (a .1) (a .2)) (λ a.
-        let b = and-both (a .0) in
-        let d = and-both (b .0) in
-        Shows.word (leb-true _ _ (d .0)) (leb-true _ _ (d .1)) (eqb-false _ _ (not-true _ (b .1))) (a .1) (a .2)) (told-bad Number (told-proposal n m ws) q)
+        let not10 = and-both (a .0) in
+        let not8 = and-both (not10 .0) in
+        let not7 = and-both (not8 .0) in
+        let limits = and-both (not7 .0) in
+        Shows.word (leb-true _ _ (limits .0)) (leb-true _ _ (limits .1)) (other (not7 .1)) (other (not8 .1)) (other (not10 .1)) (a .1) (a .2)) (told-bad Number (told-proposal n m ws) q)
+      where
+        other : {k : ℕ} → not (e is k) ≡ true → e ≡ k → ⊥
+        other h = eqb-false _ _ (not-true _ h)

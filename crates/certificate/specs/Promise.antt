@@ -29,10 +29,11 @@ CertificateMore =
     × ((n m k : ℕ) (W : Policy) → CertificateForm n m (witness W) → CertificateForm n k (witness W))
 
 -- A refusal shows what the table names: 1 the empty part at the end, 10 the empty part at the start, the others one word of the paper.
+-- 7 and 8 are of formulas, and a certificate has none.
 pub data Shows (ws : List ℕ) : ℕ → ℕ → ℕ → Type 0 where
   ended : {e p w : ℕ} → e ≡ 1 → p ≡ length ws → w ≡ 0 → Shows ws e p w
   long : {e p w : ℕ} → e ≡ 10 → p ≡ 0 → w ≡ 0 → Shows ws e p w
-  word : {e p w : ℕ} → 2 ≤ e → e ≤ 13 → (e ≡ 10 → ⊥) → p < length ws → w ≡ 1 → Shows ws e p w
+  word : {e p w : ℕ} → 2 ≤ e → e ≤ 13 → (e ≡ 7 → ⊥) → (e ≡ 8 → ⊥) → (e ≡ 10 → ⊥) → p < length ws → w ≡ 1 → Shows ws e p w
 
 abbrev pub CertificateShows : Type 0
 CertificateShows = (n m : ℕ) (ws : List ℕ) (e p w : ℕ) → certificate n m ws ≡ bad e p w → Shows ws e p w

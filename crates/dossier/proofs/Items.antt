@@ -7,16 +7,18 @@ use native.Mathlib.Omega.{arith}
 use lib.Dec.{ltb, leb, eqb}
 use lib.ListN.{length, getD, drop, length-append, length-drop}
 use borrow.Author.Tests.{ltb-true, leb-true, ltb-false, eqb-true, eqb-false, lt-ltb, le-ltb, le-leb, eq-eqb, ne-eqb}
-use Rattle.words.specs.Out.{Out, got, then, need, present}
+use Rattle.words.specs.Out.{Out, got, present}
 use Rattle.words.specs.Code.{codeList}
 use Rattle.words.specs.declared.Range.the-variants.{Below}
-use Rattle.words.proofs.Promise.{OK, fine, none, ok-then, ok-made, ok-need, In, inGot, inBad, in-then, in-made, in-need, in-then-ok, Spans, spans-word, spans-join, lies, past, Reads, reads-as, reads-then, reads-ranged, reads-listed}
+use Rattle.words.proofs.Promise.{OK, fine, none, ok-then, ok-made, ok-need, In, Spans, spans-word, spans-join, lies, past, Reads, reads-as, reads-then, reads-ranged, reads-listed}
+use Rattle.words.proofs.Shown.{told-inside}
 use Rattle.meaning.specs.Tests.{_is_, choose}
 use Rattle.meaning.specs.Formula.{Formula, always, atom, neg, conj, disj}
 use Rattle.promise.specs.Code.{bit, codeClause, codeMarked, codeFormula, codeEntry}
 use Rattle.promise.specs.Form.{ClauseForm, FormulaForm, EntryForm}
 use Rattle.promise.proofs.Seen.{is-bit}
 use Rattle.dossier.specs.Read.{clause, marked, byKind, operand, formula, entry}
+use Rattle.dossier.proofs.Refusals.{Number, told-formula, told-entry}
 
 -- ---- clauses
 
@@ -38,6 +40,10 @@ bit-is zero h = refl
 bit-is (suc zero) h = refl
 bit-is (suc (suc x)) h = absurd (omega arith)
 
+pub bit-below : (b : Bool) → bit b < 2
+bit-below true = omega arith
+bit-below false = omega arith
+
 pub reads-marked : (n : ℕ) → Reads (marked n) codeMarked (λ m. ClauseForm n (m .clause))
 unfolding marked
 reads-marked n =
@@ -45,10 +51,6 @@ reads-marked n =
     (reads-then (reads-ranged 0 2 5) (λ x c. record { visible = x is 1; clause = c }) (λ m. bit (m .visible)) (λ m. m .clause) (λ x y f. bit-is x (f .1)) (λ x y. refl) (λ m. λ i. record { visible = is-bit (m .visible) i; clause = m .clause }) (λ x f. reads-clause n))
     (λ m f. refl)
     (λ m. (λ f. f .1, λ f. ((omega arith, bit-below (m .visible)), f)))
-  where
-    bit-below : (b : Bool) → bit b < 2
-    bit-below true = omega arith
-    bit-below false = omega arith
 
 -- ---- formulas: what is accepted
 
@@ -148,28 +150,6 @@ module _ (n lp end : ℕ) (ws : List ℕ) (small : n ≤ 256) where
       (exact-operand d (at + 1) f (codeFormula g ++ rest) v (s .0) (omega arith))
       (exact-operand d (at + 1 + length (codeFormula f)) g rest (past ws (at + 1) (codeFormula f) v) (s .1) (omega arith))
 
--- ---- formulas: every place lies in the paper
-
-in-choose : {A : Type 0} {l : ℕ} (b : Bool) {o₁ o₂ : Out A} → In l o₁ → In l o₂ → In l (choose b o₁ o₂)
-unfolding choose
-in-choose true f g = f
-in-choose false f g = g
-
-in-operand : (n lp end d : ℕ) (ws : List ℕ) → lp < length ws → end ≤ length ws → (at : ℕ) → In (length ws) (operand n lp end d ws at)
-unfolding operand byKind
-in-operand n lp end zero ws l fits at = let i : lp + 1 ≤ length ws = omega arith in inBad i
-in-operand n lp end (suc d) ws l fits at = go (ltb at end) refl (in-operand n lp end d ws l fits)
-  where
-    inside : at < length ws → ((p : ℕ) → In (length ws) (operand n lp end d ws p)) → In (length ws) (byKind n (getD ws at 0) at (operand n lp end d ws))
-    inside h ih =
-        let i : at + 1 ≤ length ws = omega arith in
-        let x = getD ws at 0 in
-        in-choose (ltb x n) (inGot i) (in-choose (ltb x 256) (inBad i) (in-choose (x is 256) (inGot i) (in-choose (x is 257) (in-made neg (ih (at + 1))) (in-choose (ltb 259 x) (inBad i) (in-then _ (ih (at + 1)) (λ f p j. in-made (both x f) (ih p)))))))
-
-    go : (b : Bool) → ltb at end ≡ b → ((p : ℕ) → In (length ws) (operand n lp end d ws p)) → In (length ws) (need b 8 lp (byKind n (getD ws at 0) at (operand n lp end d ws)))
-    go false q ih = let i : lp + 1 ≤ length ws = omega arith in inBad i
-    go true q ih = let h : at < end = ltb-true at end q in inside (omega arith) ih
-
 -- ---- a formula after its length
 
 code-some : (g : Formula) → 1 ≤ length (codeFormula g)
@@ -180,24 +160,13 @@ code-some (neg g) = omega arith
 code-some (conj g h) = omega arith
 code-some (disj g h) = omega arith
 
-in-formula : (n : ℕ) (ws : List ℕ) (at : ℕ) → at ≤ length ws → In (length ws) (formula n ws at)
-unfolding formula
-in-formula n ws at h =
-    in-then-ok _ (reads-ranged 1 65 2 .sound ws at) (reads-ranged 1 65 2 .inside ws at h) (λ len p s j.
-    go len p (omega (arith, s .0 .next, j)) (leb (p + len) (length ws)) refl)
-  where
-    go : (len p : ℕ) → at < length ws → (b : Bool) → leb (p + len) (length ws) ≡ b → In (length ws) (present b ws (then (operand n at (p + len) 16 ws p) (λ f q. need (eqb q (p + len)) 8 at (got f q))))
-    go len p i false q = let z : length ws + 0 ≤ length ws = omega arith in inBad z
-    go len p i true q = in-then _ (in-operand n at (p + len) 16 ws i (leb-true _ _ q) p) (λ f r j. in-need (eqb r (p + len)) 8 at i (inGot j))
-
 -- for every number of atoms, every place lies in the paper
 pub in-entry : (n m : ℕ) (ws : List ℕ) (at : ℕ) → at ≤ length ws → In (length ws) (entry n m ws at)
-unfolding entry
-in-entry n m ws at h = in-then _ (reads-listed 0 33 (Below m 6) .inside ws at h) (λ S p i. in-made _ (in-formula n ws p i))
+in-entry n m ws at h = told-inside Number (told-entry n m ws at)
 
 pub reads-formula : (n : ℕ) → n ≤ 256 → Reads (formula n) (λ f. codeList (codeFormula f)) (λ f. FormulaForm n 16 f × (length (codeFormula f) ≤ 64))
 unfolding formula
-reads-formula n small = record { sound = sound; exact = exact; inside = in-formula n }
+reads-formula n small = record { sound = sound; exact = exact; inside = λ ws at h. told-inside Number (told-formula n ws at) }
   where
     sound : (ws : List ℕ) (at : ℕ) → OK (λ f p. Spans ws at (codeList (codeFormula f)) p × (FormulaForm n 16 f × (length (codeFormula f) ≤ 64))) (formula n ws at)
     sound ws at =

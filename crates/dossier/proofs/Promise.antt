@@ -2,6 +2,7 @@
 use Prim.Native.Nat.{ℕ, _+_, _≤_}
 use mathlib.Core.Path.{_≡_, refl, sym, ap, _∙_}
 use mathlib.Core.List.{List, [], _∷_, _++_, append-nil}
+use mathlib.Core.Logic.{⊎-elim}
 use native.Mathlib.Omega.{arith}
 use lib.Dec.{leb}
 use lib.ListN.{length, drop-of-length-le}
@@ -11,11 +12,15 @@ use Rattle.words.specs.Code.{codeList, codeAll, codeMany}
 use Rattle.words.specs.declared.Range.the-variants.{Any}
 use Rattle.words.proofs.Promise.{OK, fine, ok-then, ok-need, ok-got, Reads, reads-as, reads-bind, reads-made, reads-ranged, reads-listed, reads-section, decoded-once}
 use Rattle.words.proofs.Parts.{reads-after}
+use Rattle.words.proofs.Shown.{told-bad}
+use Rattle.meaning.proofs.Tests.{and-both}
 use Rattle.promise.specs.Code.{codeMarked, codeClause, codeEntry, codeDossier}
 use Rattle.promise.specs.Form.{EntryForm, DossierForm}
 use Rattle.dossier.specs.Read.{secret, ended, sections, dossier}
-use Rattle.dossier.specs.Promise.{DossierSound, DossierAccepted, DossierOnce}
+use Rattle.dossier.specs.Promise.{DossierSound, DossierAccepted, DossierOnce, Shows, DossierShows, DossierLongest}
 use Rattle.dossier.proofs.Items.{reads-clause, reads-marked, reads-entry}
+use Rattle.dossier.proofs.Refusals.{shown, Number, told-dossier}
+use Rattle.dossier.proofs.Longest.{dossier-most, dossier-full}
 
 -- the secret after its count, which is 1
 reads-secret : (n m : ℕ) → n ≤ 256 → Reads (secret n m) (λ e. 1 ∷ codeEntry e) (EntryForm n m)
@@ -103,3 +108,13 @@ dossierAccepted D f =
 
 pub dossierOnce : DossierOnce
 dossierOnce D E f g e = decoded-once reads-sections D E [] [] (ap (λ (l : List ℕ). l ++ []) e) f g
+
+pub dossierShows : DossierShows
+unfolding shown
+dossierShows ws e p w q =
+    ⊎-elim (λ a. Shows.ended (a .0) (a .1) (a .2)) (λ a.
+    let b = and-both (a .0) in
+    Shows.word (leb-true _ _ (b .0)) (leb-true _ _ (b .1)) (a .1) (a .2)) (told-bad Number (told-dossier ws) q)
+
+pub dossierLongest : DossierLongest
+dossierLongest = (dossier-most, dossier-full)

@@ -1,9 +1,9 @@
 -- What the reader promises of a dossier, each as a type; proofs/Promise.antt has each under the same name in small letters.
-use Prim.Native.Nat.{ℕ}
+use Prim.Native.Nat.{ℕ, _≤_, _<_}
 use mathlib.Core.Path.{_≡_}
 use mathlib.Core.List.{List}
 use lib.ListN.{length}
-use Rattle.words.specs.Out.{got}
+use Rattle.words.specs.Out.{got, bad}
 use Rattle.meaning.specs.Papers.{Dossier}
 use Rattle.promise.specs.Code.{codeDossier}
 use Rattle.promise.specs.Form.{DossierForm}
@@ -20,3 +20,15 @@ DossierAccepted = (D : Dossier) → DossierForm D → dossier (codeDossier D) �
 -- Two well-formed dossiers never have the same words.
 abbrev pub DossierOnce : Type 0
 DossierOnce = (D E : Dossier) → DossierForm D → DossierForm E → codeDossier D ≡ codeDossier E → D ≡ E
+
+-- A refusal shows what the table names: 1 the empty part at the end, 2 to 9 one word of the paper.
+pub data Shows (ws : List ℕ) : ℕ → ℕ → ℕ → Type 0 where
+  ended : {e p w : ℕ} → e ≡ 1 → p ≡ length ws → w ≡ 0 → Shows ws e p w
+  word : {e p w : ℕ} → 2 ≤ e → e ≤ 9 → p < length ws → w ≡ 1 → Shows ws e p w
+
+abbrev pub DossierShows : Type 0
+DossierShows = (ws : List ℕ) (e p w : ℕ) → dossier ws ≡ bad e p w → Shows ws e p w
+
+-- "The longest sound dossier has 8,167 words."
+abbrev pub DossierLongest : Type 0
+DossierLongest = ((D : Dossier) → DossierForm D → length (codeDossier D) ≤ 8167) × ((D : Dossier) × DossierForm D × (length (codeDossier D) ≡ 8167))

@@ -22,7 +22,7 @@ add-t7 : tie.Need-add-t7
 add-t7 c = search needs
 
 returns : tie.Need-returns
-returns c = cc (c .word2 .ensures .0, c .before .word .ensures .0)
+returns c = rw (c .word2 .ensures .0, c .before .word .ensures .0)
 
 pub clause-at-spec : {M : Type 1} → statement M
 clause-at-spec =

@@ -15,7 +15,7 @@ word-requires c κs = search needs
 
 returns : tie.Need-returns
 unfolding _is_
-returns c = cc (c .word .ensures .0, c .before .clause-at .ensures)
+returns c = rw (c .word .ensures .0, c .before .clause-at .ensures)
 
 pub marked-at-spec : {M : Type 1} → statement M
 marked-at-spec = tie.close (tie.spec add-clause-at clause-at-requires word-requires returns)

@@ -1,0 +1,44 @@
+-- The judge's reply to two lists of words (01, "What the reply says").
+-- "Order: the dossier's form from left to right; 10; the certificate's form from left to right; then meaning."
+use Prim.Native.Nat.{ℕ}
+use mathlib.Core.Path.{_≡_}
+use mathlib.Core.List.{List}
+use lib.ListN.{length}
+use Rattle.words.specs.Out.{Out, got, bad}
+use Rattle.meaning.specs.Papers as papers
+use Rattle.meaning.specs.Verdict as meant
+use Rattle.promise.specs.Layout.{layoutOf, proposalOf}
+use Rattle.promise.specs.declared.Layout.{Layout}
+use Rattle.promise.specs.declared.Proposal.{Proposal}
+use Rattle.dossier.specs.Read.{dossier}
+use Rattle.certificate.specs.Read.{certificate}
+use Rattle.reply.specs.Answer.{refused}
+use Rattle.reply.specs.declared.Paper.the-variants.{Dossier, Certificate}
+use Rattle.reply.specs.declared.Reply.{Reply}
+use Rattle.verdict.specs.Told.{replyAt, sizeOf}
+
+-- with the dossier D read from d, and what was read from c
+unfoldable pub judgeProposal : List ℕ → papers.Dossier → List ℕ → Out papers.Certificate → Reply
+judgeProposal d D c (got C q) = replyAt d (layoutOf D) c (sizeOf (proposalOf C)) (meant.judge D C)
+judgeProposal d D c (bad e p w) = refused e Certificate p w
+
+-- with what was read from d
+unfoldable pub judgeRead : List ℕ → Out papers.Dossier → List ℕ → Reply
+judgeRead d (got D q) c = judgeProposal d D c (certificate (length (D .labels)) (length (D .creds)) c)
+judgeRead d (bad e p w) c = refused e Dossier p w
+
+unfoldable pub judgeOf : List ℕ → List ℕ → Reply
+judgeOf d c = judgeRead d (dossier d) c
+
+-- d was read as a dossier, whose sections stand as o says; c as a certificate, which proposes x
+pub record Sound (d : List ℕ) (o : Layout) : Type 0 where
+  pub paper : papers.Dossier
+  pub end : ℕ
+  pub isRead : dossier d ≡ got paper end
+  pub layout : o ≡ layoutOf paper
+
+pub record Offered (n m : ℕ) (c : List ℕ) (x : Proposal) : Type 0 where
+  pub paper : papers.Certificate
+  pub end : ℕ
+  pub isRead : certificate n m c ≡ got paper end
+  pub proposal : x ≡ proposalOf paper
