@@ -1,2 +1,4 @@
 pub mod Judge
 pub mod Answers
+pub mod Cases
+pub mod Demands

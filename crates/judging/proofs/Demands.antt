@@ -1,0 +1,162 @@
+-- The demands of specs/Demands.antt, each under its name in small letters.
+use Prim.Native.Nat.{ℕ, _≤_, _<_}
+use mathlib.Core.Path.{_≡_, refl, sym, ap, _∙_, subst}
+use mathlib.Core.List.{List, List·Memᴰ·head, List·Memᴰ·tail}
+use native.Mathlib.Omega.{arith}
+use lib.ListN.{length, length-append}
+use Rattle.words.specs.Out.{Out, got, bad}
+use Rattle.meaning.specs.Tests.{_∈_}
+use Rattle.meaning.specs.Policy.{Policy}
+use Rattle.meaning.specs.Papers.{Dossier, Entry, Line, Certificate, witness, proof}
+use Rattle.meaning.specs.Looks.{Detectable}
+use Rattle.meaning.specs.Verdict as meant
+use Rattle.meaning.specs.Demands as decoded
+use Rattle.meaning.specs.Extends.{Extends, WellNamed}
+use Rattle.meaning.proofs.Demands as shown
+use Rattle.promise.specs.Code.{codeDossier, codeCertificate}
+use Rattle.promise.specs.Form.{DossierForm, CertificateForm}
+use Rattle.promise.specs.Layout.{layoutOf, proposalOf}
+use Rattle.promise.specs.declared.Layout.{Layout}
+use Rattle.dossier.proofs.Promise.{dossierAccepted}
+use Rattle.certificate.specs.Read.{certificate}
+use Rattle.certificate.proofs.Promise.{certificateSound, certificateAccepted, certificateMore}
+use Rattle.reply.specs.Answer.{accepted}
+use Rattle.reply.specs.declared.Paper.the-variants as paper
+use Rattle.reply.specs.declared.Reply.{Reply}
+use Rattle.reply.specs.declared.Verdict as said
+use Rattle.reply.specs.declared.Verdict.the-variants as verdict
+use Rattle.verdict.specs.Told.{showing, replyAt, sizeOf}
+use Rattle.judging.specs.Judge.{judgeProposal, judgeRead, judgeOf}
+use Rattle.judging.specs.Demands.{SaysOpaque, SaysDetectable, SoundFor, Demand2, Demand3}
+
+-- ---- a reply tells its outcome
+
+tag : said.Verdict → ℕ
+tag verdict.Opaque = 0
+tag verdict.Detectable = 1
+tag (verdict.Refused e) = 2
+
+module _ (d : List ℕ) (o : Layout) (c : List ℕ) (k : ℕ) where
+  tagOf : meant.Outcome → ℕ
+  tagOf x = tag (replyAt d o c k x .verdict)
+
+  opaque-only : (x : meant.Outcome) → tagOf x ≡ 0 → x ≡ meant.opaque
+  unfolding tagOf tag replyAt showing
+  opaque-only meant.opaque h = refl
+  opaque-only meant.detectable h = absurd (omega arith)
+  opaque-only (meant.probeDiffers j) h = absurd (omega arith)
+  opaque-only meant.secretTrue h = absurd (omega arith)
+  opaque-only (meant.lineFails j) h = absurd (omega arith)
+  opaque-only meant.lastNotEmpty h = absurd (omega arith)
+
+  detectable-only : (x : meant.Outcome) → tagOf x ≡ 1 → x ≡ meant.detectable
+  unfolding tagOf tag replyAt showing
+  detectable-only meant.opaque h = absurd (omega arith)
+  detectable-only meant.detectable h = refl
+  detectable-only (meant.probeDiffers j) h = absurd (omega arith)
+  detectable-only meant.secretTrue h = absurd (omega arith)
+  detectable-only (meant.lineFails j) h = absurd (omega arith)
+  detectable-only meant.lastNotEmpty h = absurd (omega arith)
+
+  says-opaque : (x : meant.Outcome) → replyAt d o c k x ≡ accepted verdict.Opaque → x ≡ meant.opaque
+  unfolding tagOf tag
+  says-opaque x h = opaque-only x (ap (λ (r : Reply). tag (r .verdict)) h)
+
+  says-detectable : (x : meant.Outcome) → replyAt d o c k x ≡ accepted verdict.Detectable → x ≡ meant.detectable
+  unfolding tagOf tag
+  says-detectable x h = detectable-only x (ap (λ (r : Reply). tag (r .verdict)) h)
+
+-- ---- what is accepted for a well-formed dossier
+
+module _ (D : Dossier) (f : DossierForm D) where
+  abbrev told : List ℕ → Certificate → meant.Outcome → Reply
+  told c C x = replyAt (codeDossier D) (layoutOf D) c (sizeOf (proposalOf C)) x
+
+  read-first : (c : List ℕ) → judgeOf (codeDossier D) c ≡ judgeProposal (codeDossier D) D c (certificate (length (D .labels)) (length (D .creds)) c)
+  unfolding judgeOf judgeRead
+  read-first c = ap (λ (x : Out Dossier). judgeRead (codeDossier D) x c) (dossierAccepted D f)
+
+  pub judged : (C : Certificate) → SoundFor D C → judgeOf (codeDossier D) (codeCertificate C) ≡ told (codeCertificate C) C (meant.judge D C)
+  unfolding judgeProposal
+  judged C g = read-first (codeCertificate C) ∙ ap (λ (x : Out Certificate). judgeProposal (codeDossier D) D (codeCertificate C) x) (certificateAccepted (length (D .labels)) (length (D .creds)) C g)
+
+  -- words that are not refused are a sound certificate's
+  record Meant (c : List ℕ) : Type 0 where
+    C : Certificate
+    words : c ≡ codeCertificate C
+    sound : SoundFor D C
+    reply : judgeOf (codeDossier D) c ≡ told c C (meant.judge D C)
+
+  not-refused : (c : List ℕ) (out : Out Certificate) → certificate (length (D .labels)) (length (D .creds)) c ≡ out → (tag (judgeProposal (codeDossier D) D c out .verdict) < 2) → Meant c
+  unfolding judgeProposal tag
+  not-refused c (got C q) e h =
+      let s = certificateSound (length (D .labels)) (length (D .creds)) c C q e in
+      record { C = C; words = s .0; sound = s .1; reply = read-first c ∙ ap (λ (x : Out Certificate). judgeProposal (codeDossier D) D c x) e }
+  not-refused c (bad e p w) g h = absurd (omega arith)
+
+  accepted-meant : (c : List ℕ) → tag (judgeOf (codeDossier D) c .verdict) < 2 → Meant c
+  accepted-meant c h = not-refused c (certificate (length (D .labels)) (length (D .creds)) c) refl (subst (λ (r : Reply). tag (r .verdict) < 2) (read-first c) h)
+
+  pub opaque-meant : (c : List ℕ) → SaysOpaque (codeDossier D) c → (W : Policy) × (c ≡ codeCertificate (witness W)) × SoundFor D (witness W) × meant.WitnessAccepted D W
+  unfolding tag decoded.When
+  opaque-meant c h = go (m .C) (m .words) (m .sound) (says-opaque _ _ _ _ _ (sym (m .reply) ∙ h))
+    where
+      m : Meant c
+      m = accepted-meant c (subst (λ (r : Reply). tag (r .verdict) < 2) (sym h) (omega arith))
+
+      go : (C : Certificate) → c ≡ codeCertificate C → SoundFor D C → meant.judge D C ≡ meant.opaque → (W : Policy) × (c ≡ codeCertificate (witness W)) × SoundFor D (witness W) × meant.WitnessAccepted D W
+      go (witness W) e s a = (W, e, s, a)
+      go (proof ls) e s a = absurd (shown.demand2 D (proof ls) meant.opaque .0 a)
+
+  pub detectable-meant : (c : List ℕ) → SaysDetectable (codeDossier D) c → (ls : List Line) × (c ≡ codeCertificate (proof ls)) × SoundFor D (proof ls) × meant.ProofAccepted D ls
+  unfolding tag decoded.When
+  detectable-meant c h = go (m .C) (m .words) (m .sound) (says-detectable _ _ _ _ _ (sym (m .reply) ∙ h))
+    where
+      m : Meant c
+      m = accepted-meant c (subst (λ (r : Reply). tag (r .verdict) < 2) (sym h) (omega arith))
+
+      go : (C : Certificate) → c ≡ codeCertificate C → SoundFor D C → meant.judge D C ≡ meant.detectable → (ls : List Line) × (c ≡ codeCertificate (proof ls)) × SoundFor D (proof ls) × meant.ProofAccepted D ls
+      go (witness W) e s a = absurd (shown.demand2 D (witness W) meant.detectable .0 a)
+      go (proof ls) e s a = (ls, e, s, a)
+
+  -- and back
+  pub meant-opaque : (c : List ℕ) (C : Certificate) → c ≡ codeCertificate C → SoundFor D C → meant.judge D C ≡ meant.opaque → SaysOpaque (codeDossier D) c
+  unfolding replyAt
+  meant-opaque c C e s a = ap (judgeOf (codeDossier D)) e ∙ judged C s ∙ ap (told (codeCertificate C) C) a
+
+  pub meant-detectable : (c : List ℕ) (C : Certificate) → c ≡ codeCertificate C → SoundFor D C → meant.judge D C ≡ meant.detectable → SaysDetectable (codeDossier D) c
+  unfolding replyAt
+  meant-detectable c C e s a = ap (judgeOf (codeDossier D)) e ∙ judged C s ∙ ap (told (codeCertificate C) C) a
+
+  well-named : WellNamed D
+  unfolding WellNamed
+  well-named e (List·Memᴰ·head q) i m = f .secret .creds .below i (subst (λ (x : Entry). i ∈ x .creds) q m)
+  well-named e (List·Memᴰ·tail t) i m = f .probes e t .creds .below i m
+
+-- ---- the demands
+
+pub demand2 : Demand2
+demand2 D C f g = (
+  (λ h. shown.demand2 D C meant.opaque .0 (says-opaque _ _ _ _ _ (sym (judged D f C g) ∙ h)), λ w. meant-opaque D f _ C refl g (shown.demand2 D C meant.opaque .1 w)),
+  (λ h. shown.demand2 D C meant.detectable .0 (says-detectable _ _ _ _ _ (sym (judged D f C g) ∙ h)), λ w. meant-detectable D f _ C refl g (shown.demand2 D C meant.detectable .1 w)),
+)
+
+-- a certificate's soundness does not lose by more credentials, nor a witness's by fewer
+module _ (D E : Dossier) (x : Extends D E) where
+  more : length (D .creds) ≤ length (E .creds)
+  more = omega (arith, ap length (x .creds), length-append (D .creds) (x .newCreds))
+
+  sound-more : (C : Certificate) → SoundFor D C → SoundFor E C
+  sound-more C s = subst (λ (n : ℕ). CertificateForm n (length (E .creds)) C) (ap length (sym (x .labels))) (certificateMore .0 (length (D .labels)) (length (D .creds)) (length (E .creds)) C more s)
+
+  sound-fewer : (W : Policy) → SoundFor E (witness W) → SoundFor D (witness W)
+  sound-fewer W s = subst (λ (n : ℕ). CertificateForm n (length (D .creds)) (witness W)) (ap length (x .labels)) (certificateMore .1 (length (E .labels)) (length (E .creds)) (length (D .creds)) W s)
+
+pub demand3 : Demand3
+demand3 =
+    record {
+      every = λ D f c h. let (ls, e, s, a) = detectable-meant D f c h in shown.demand3 .every D ls a;
+      proofStays = λ D E x f g c h. let (ls, e, s, a) = detectable-meant D f c h in meant-detectable E g c (proof ls) e (sound-more D E x (proof ls) s) (shown.demand3 .proofStays D E x (well-named D f) ls a);
+      noWitness = λ D E x f g c w h i. let (ls, e, s, a) = detectable-meant D f c h in let (W, e', s', b) = opaque-meant E g w i in shown.demand3 .noWitness D E x (well-named D f) ls a W b;
+      witnessStays = λ D E x f g q w i. let (W, e, s, b) = opaque-meant E g w i in meant-opaque D f w (witness W) e (sound-fewer D E x W s) (shown.demand3 .witnessStays D E x (well-named D f) q W b);
+    }
