@@ -2,3 +2,5 @@ pub mod Sound
 pub mod Judged
 pub mod Cases
 pub mod Demands
+pub mod Shows
+pub mod Slack
