@@ -30,10 +30,28 @@ noSlack =
     record {
       judge = λ i r q. one r q;
       answers = λ i r q. two r q;
-      dossier = λ i r q. one r q;
-      certificate = λ i r q. one r q;
+      judgeSound = λ i r q. one r q;
+      lineFollows = λ i r q. one r q;
       answerAt = λ i r q. one r q;
+      answerWords = λ i r q. one r q;
       answered = λ i r q. two r q;
+      certificate = λ i r q. one r q;
+      dossier = λ i r q. one r q;
+      clauseRead = λ i r q. one r q;
+      sectionAfter = λ i r q. one r q;
+      word = λ i r q e f. one r q (e .0) (f .0);
+      clauseAt = λ i r q. one r q;
+      markedAt = λ i r q. one r q;
+      entryAt = λ i r q. one r q;
+      literalAt = λ i r q. one r q;
+      lineView = λ i r q. one r q;
+      dataWords = λ i r q e f. one r q (e .0) (f .0);
+      afterLiterals = λ i r q. one r q;
+      nextAt = λ i r q. one r q;
+      starts = λ i r q. one r q;
+      wordIn = λ i r q. one r q;
+      risingWords = λ i r q. one r q;
+      listAt = λ i r q. one r q;
     }
 
 -- the rows of 01's table that break the empty builds
@@ -52,6 +70,10 @@ case-d = casesHold _ (List·Memᴰ·tail (List·Memᴰ·tail (List·Memᴰ·tail
 case-e : judgeOf T1 (1 ∷ 1 ∷ 2 ∷ 0 ∷ []) ≡ refused 14 Dossier 21 3
 unfolding Holds
 case-e = casesHold _ (List·Memᴰ·tail (List·Memᴰ·tail (List·Memᴰ·tail (List·Memᴰ·tail (List·Memᴰ·head refl)))))
+
+case-g : judgeOf T1 (1 ∷ 0 ∷ []) ≡ refused 14 Dossier 17 4
+unfolding Holds
+case-g = casesHold _ (List·Memᴰ·tail (List·Memᴰ·tail (List·Memᴰ·tail (List·Memᴰ·tail (List·Memᴰ·tail (List·Memᴰ·tail (List·Memᴰ·head refl)))))))
 
 kind : Verdict → ℕ
 kind Opaque = 0
@@ -74,6 +96,7 @@ module _ (f : List ℕ → List ℕ → Reply) (keeps : (d c : List ℕ) → f d
         alwaysDetectable = λ h. let z : _≡_ {A = ℕ} 1 0 = ap kindOf (sym (h T2 (1 ∷ 1 ∷ 2 ∷ 0 ∷ [])) ∙ keeps _ _ ∙ case-d) in omega arith;
         firstProbe = λ h. let z : _≡_ {A = ℕ} 0 2 = ap kindOf (sym h ∙ keeps _ _ ∙ case-e) in omega arith;
         firstLine = λ h. let z : _≡_ {A = ℕ} 1 2 = ap kindOf (sym h ∙ keeps _ _ ∙ case-c) in omega arith;
+        earlierSave = λ h. let z : _≡_ {A = ℕ} 0 2 = ap kindOf (sym h ∙ keeps _ _ ∙ case-g) in omega arith;
       }
 
 module _ (f : List ℕ → List ℕ → Answered) (after : List ℕ → List ℕ → List ℕ) (keeps : (d t : List ℕ) → (f d t ≡ answersOf d t) × (after d t ≡ tableAfter d t)) where
