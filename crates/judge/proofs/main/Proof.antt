@@ -1,0 +1,69 @@
+-- `judge::main` is safe: the line is no longer than its table.
+use native.Mathlib.Omega.{arith}
+use mathlib.Core.Path.{sym}
+use lib.Seq.{length-take-le}
+use Rattle.judge.proofs.Read.{printed-count}
+use borrow.Author.Needs.{needs}
+use Rattle.judge.proofs.main.Statement.{statement}
+use Rattle.judge.proofs.main.Tie as tie
+
+input-requires : tie.Need-input-requires
+input-requires c κs = search needs
+
+slice-aggregate-read-full : tie.Need-slice-aggregate-read-full
+slice-aggregate-read-full c = search needs
+
+read-full-requires : tie.Need-read-full-requires
+read-full-requires c κs = search needs
+
+room-requires : tie.Need-room-requires
+room-requires c κs = search needs
+
+blank-requires : tie.Need-blank-requires
+blank-requires c κs = search needs
+
+array-share-prefix-bytes : tie.Need-array-share-prefix-bytes
+array-share-prefix-bytes c = search needs
+
+slice-aggregate-answer : tie.Need-slice-aggregate-answer
+slice-aggregate-answer c = search needs
+
+slice-aggregate-answer-2 : tie.Need-slice-aggregate-answer-2
+slice-aggregate-answer-2 c = search needs
+
+slice-aggregate-answer-3 : tie.Need-slice-aggregate-answer-3
+slice-aggregate-answer-3 c = search needs
+
+answer-requires : tie.Need-answer-requires
+answer-requires c κs = search needs
+
+array-share-prefix-out : tie.Need-array-share-prefix-out
+array-share-prefix-out c = let e = printed-count _ (c .before .before .answer .ensures .1) in omega (arith, e, c .before .before .answer .kept .1 .1 .0)
+
+slice-aggregate-write-all : tie.Need-slice-aggregate-write-all
+slice-aggregate-write-all c = let e = printed-count _ (c .before .before .before .answer .ensures .1) in sym (length-take-le (c .before .before .before .answer .result) (c .before .before .before .answer .last .1 .1 .0) (omega (arith, e, c .before .before .before .answer .kept .1 .1 .0)))
+
+write-all-requires : tie.Need-write-all-requires
+write-all-requires c κs = search needs
+
+returns : tie.Need-returns
+returns c = search needs
+
+pub main-spec : {M : Type 1} → statement M
+main-spec =
+    tie.close
+    (tie.spec
+    input-requires
+    slice-aggregate-read-full
+    read-full-requires
+    room-requires
+    blank-requires
+    array-share-prefix-bytes
+    slice-aggregate-answer
+    slice-aggregate-answer-2
+    slice-aggregate-answer-3
+    answer-requires
+    array-share-prefix-out
+    slice-aggregate-write-all
+    write-all-requires
+    returns)
