@@ -26,7 +26,7 @@ use Rattle.promise.proofs.Seen.{first-word, next-words}
 use Rattle.promise.proofs.SeenLine.{data-count, number-some, lines-seen}
 use Rattle.certificate.specs.Read.{literals, line}
 use Rattle.certificate.proofs.Literals.{reads-literals}
-use Rattle.certificate.proofs.Refusals.{Number, told-line}
+use Rattle.certificate.proofs.Refusals.{told-line}
 
 -- ---- data words: so many are there, or the paper ends before
 
@@ -139,7 +139,7 @@ number-few (resolve u v i j) = omega arith
 
 pub reads-line : (n m : ℕ) → Reads (line n m) codeLine (LineForm n m)
 unfolding line
-reads-line n m = record { sound = sound; exact = exact; inside = λ ws at h. told-inside Number (told-line n m ws at) }
+reads-line n m = record { sound = sound; exact = exact; inside = λ ws at h. told-inside _ (told-line n m ws at) }
   where
     -- the code of a line whose rule is made of its number and its data words
     code : (ws : List ℕ) (at z r p : ℕ) (d rest tail : List ℕ) → 1 ≤ r → r < 9 → length d ≡ dataCount r → drop p ws ≡ d ++ rest → Spans ws at (r ∷ (d ++ tail)) z → Spans ws at (numberOf (ruleOf ws r p) ∷ (dataOf (ruleOf ws r p) ++ tail)) z

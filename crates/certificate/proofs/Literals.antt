@@ -19,7 +19,7 @@ use Rattle.promise.specs.Code.{codeLiteral}
 use Rattle.promise.specs.Form.{StatementForm, Apart}
 use Rattle.certificate.specs.Read.{spoken, literals}
 use Rattle.certificate.proofs.Items.{reads-literal}
-use Rattle.certificate.proofs.Refusals.{Number, told-literals}
+use Rattle.certificate.proofs.Refusals.{told-literals}
 
 -- ---- the test of 13
 
@@ -105,6 +105,6 @@ module _ (n m : ℕ) where
   pub reads-literals : (k : ℕ) → Reads (literals n m k []) (codeAll codeLiteral) (λ ls. (length ls ≡ k) × (((x : Literal) → x ∈ ls → StatementForm n m (x .said)) × Apart ls))
   reads-literals k =
       reads-as
-      (record { sound = ok-literals k []; exact = exact-literals k []; inside = λ ws at h. told-inside Number (told-literals n m ws k [] at h) })
+      (record { sound = ok-literals k []; exact = exact-literals k []; inside = λ ws at h. told-inside _ (told-literals n m ws k at h) })
       (λ ls f. refl)
       (λ ls. (λ f. (f .0, (f .1 .0, f .1 .1 .1)), λ f. (f .0, (f .1 .0, ((λ x i y j. absurd (List·Memᴰ·not-nil j)), f .1 .1)))))

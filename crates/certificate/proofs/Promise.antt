@@ -1,30 +1,38 @@
 -- The theorems of specs/Promise.antt, each under its name in small letters.
 use Prim.Native.Nat.{ℕ, _+_, _<_, _≤_}
 use mathlib.Core.Path.{_≡_, refl, sym, ap, _∙_}
-use mathlib.Core.Bool.{Bool, true, false, not}
+use mathlib.Core.Bool.{Bool, true, false}
 use mathlib.Core.List.{List, [], _∷_, _++_, append-nil}
-use mathlib.Core.Logic.{⊎-elim, _↔_}
+use mathlib.Core.Logic.{_⊎_, inl, inr, _↔_}
 use native.Mathlib.Omega.{arith}
 use lib.Dec.{leb, eqb}
-use lib.ListN.{length, drop, length-append, drop-of-length-le}
+use lib.ListN.{length, getD, drop, length-append, drop-of-length-le}
 use lib.Seq.{drop-append-seam}
-use borrow.Author.Tests.{le-leb, leb-true, eqb-true, eqb-false}
+use borrow.Author.Tests.{le-leb, leb-true, leb-false, eqb-true, eqb-false}
 use Rattle.words.specs.Out.{Out, got, bad, then}
-use Rattle.words.proofs.Promise.{OK, fine, none, ok-then, ok-need, ok-more, ok-got, Spans, spans-join, Reads, reads-ranged, reads-section}
+use Rattle.words.proofs.Promise.{OK, fine, none, ok-then, ok-need, ok-more, ok-got, Spans, spans-join, spans-whole, Reads, reads-ranged, reads-section}
 use Rattle.words.proofs.Parts.{reads-after}
-use Rattle.words.proofs.Shown.{told-bad}
+use Rattle.words.proofs.Shown.{Told, told-bad, told-then-ok, told-ranged, told-section, told-after}
+use Rattle.words.specs.Read.{section}
 use Rattle.meaning.specs.Tests.{_∈_, _is_, choose}
 use Rattle.meaning.specs.Policy.{Policy, Clause}
 use Rattle.meaning.specs.Papers.{Line, Certificate, witness, proof}
-use Rattle.meaning.proofs.Tests.{and-both, not-true}
 use Rattle.promise.specs.Code.{codeCertificate}
 use Rattle.promise.specs.Form.{ClauseForm, LineForm, PartsForm, CertificateForm}
-use Rattle.dossier.specs.Read.{ended}
+use Rattle.promise.specs.Table as table
+use Rattle.promise.specs.Table.{Sheet, Wrong, FormRow, WholeCertificate, CertificateRow}
+use Rattle.promise.proofs.Table.{None, wrong-moved, wrong-limit}
+use Rattle.dossier.specs.Read.{clause, ended}
+use Rattle.dossier.proofs.Refusals.{told-clause, told-ended}
 use Rattle.dossier.proofs.Items.{reads-clause}
-use Rattle.certificate.specs.Read.{witnessFrom, proofFrom, proposal, certificate}
-use Rattle.certificate.specs.Promise.{CertificateSound, CertificateAccepted, CertificateOnce, CertificateMore, Shows, CertificateShows}
+use Rattle.certificate.specs.Read.{line, witnessFrom, proofFrom, proposal, certificate}
+use Rattle.certificate.specs.Promise.{CertificateSound, CertificateAccepted, CertificateOnce, CertificateMore, CertificateShows}
 use Rattle.certificate.proofs.Lines.{reads-line}
-use Rattle.certificate.proofs.Refusals.{shown, Number, told-proposal}
+use Rattle.certificate.proofs.Refusals.{told-line}
+
+-- what may be wrong with a word of a certificate
+abbrev Row : ℕ → ℕ → List ℕ → ℕ → ℕ → Type 0
+Row n m ws = Wrong (λ k. k ≡ n) (λ k. k ≡ m) (WholeCertificate n m) ws Sheet.certificate
 
 -- ---- a reader after the first word, and no word after it; `mk` makes the certificate of what was read
 
@@ -47,6 +55,11 @@ module _ (n m : ℕ) {A : Type 0} {r : List ℕ → ℕ → Out A} {code : A →
       let z : length lead + length (code x) ≡ length ws = omega (arith, ap length (coded x), length-append lead (code x)) in
       let i : length ws ≤ length lead + length (code x) = omega arith in
       simp (R .exact ws (length lead) x [] w (formed x .1 f), le-leb _ _ i) (ap (got (mk x)) z)
+
+  told-from : (ws : List ℕ) {p : ℕ} → Spans ws 0 lead p → Told (Row n m ws) (length ws) (r ws p) → Told (Row n m ws) (length ws) (then (r ws p) (λ x q. ended ws (mk x) q))
+  told-from ws {p} s t =
+      told-then-ok (Row n m ws) _ (R .sound ws p) t (λ x q u i.
+      told-ended (Row n m ws) ws (mk x) q (Wrong.leftOver (mk x, formed x .0 (u .1), spans-whole (lead ++ code x) (spans-join s (u .0)) ∙ coded x)) i)
 
 -- ---- witness and proof
 
@@ -125,23 +138,37 @@ certificateMore = (
   λ n m k W f. record { parts = f .parts; short = f .short },
 )
 
+-- ---- refusals
+
+module _ (n m : ℕ) (ws : List ℕ) where
+  told-proposal : Told (Row n m ws) (length ws) (proposal n m ws)
+  unfolding proposal witnessFrom proofFrom choose _is_ codeCertificate
+  told-proposal =
+      told-then-ok (Row n m ws) _ (reads-ranged 1 3 11 .sound ws 0) (told-ranged (Row n m ws) ws 1 3 0 (λ o. Wrong.kind (λ e. o (omega (arith, e)) (omega (arith, e))) (λ e. o (omega (arith, e)) (omega (arith, e))))) (λ x p s i.
+      go x p (s .0) (s .1 .0) (s .1 .1) i (eqb x 1) refl)
+    where
+      go : (x p : ℕ) → Spans ws 0 (x ∷ []) p → 1 ≤ x → x < 3 → p ≤ length ws → (b : Bool) → eqb x 1 ≡ b → Told (Row n m ws) (length ws) (choose b (witnessFrom n ws p) (proofFrom n m ws p))
+      go x p s lo hi i true e =
+          told-from n m (reads-after (reads-section (reads-clause n) 0 129)) witness (1 ∷ []) (λ x. refl) (witness-formed n m) ws (rw (eqb-true x 1 e) at s)
+          (told-after (section 0 129 (clause n)) ws p i (wrong-moved _ _ _ ws p Sheet.certificate) (told-section _ (drop p ws) (clause n) (told-clause (λ k. k ≡ n) (λ k. k ≡ m) None Sheet.certificate n refl (drop p ws)) 0 129 0 (wrong-limit table.clauses)))
+      go x p s lo hi i false e =
+          let d : x ≡ 1 → ⊥ = eqb-false x 1 e in
+          let z : x ≡ 2 = omega arith in
+          told-from n m (reads-after (reads-section (reads-line n m) 1 1025)) proof (2 ∷ []) (λ x. refl) (proof-formed n m) ws (rw z at s)
+          (told-after (section 1 1025 (line n m)) ws p i (wrong-moved _ _ _ ws p Sheet.certificate) (told-section _ (drop p ws) (line n m) (told-line n m (drop p ws)) 1 1025 0 (wrong-limit table.lines)))
+
 pub certificateShows : CertificateShows
-unfolding certificate choose shown _is_
-certificateShows n m ws e p w = go (leb (length ws) 24000)
+unfolding certificate choose
+certificateShows n m ws e p w = go (leb (length ws) 24000) refl
   where
-    go : (b : Bool) → choose b (proposal n m ws) (bad 10 0 0) ≡ bad e p w → Shows ws e p w
-    go false q =
+    shows : ((e ≡ 1) × (p ≡ length ws) × (w ≡ 0)) ⊎ (Row n m ws e p × (p < length ws) × (w ≡ 1)) → (us : List ℕ) × CertificateRow n m ws e p w us
+    shows (inl (a, b, c)) = ([], rw (a, b, c) FormRow.ended)
+    shows (inr (a, b, c)) = (getD ws p 0 ∷ [], rw c (FormRow.shown a b))
+
+    go : (b : Bool) → leb (length ws) 24000 ≡ b → choose b (proposal n m ws) (bad 10 0 0) ≡ bad e p w → (us : List ℕ) × CertificateRow n m ws e p w us
+    go false l q =
         let a : e ≡ 10 = cc in
         let b : p ≡ 0 = cc in
         let d : w ≡ 0 = cc in
-        Shows.long a b d
-    go true q =
-        ⊎-elim (λ a. Shows.ended (a .0) (a .1) (a .2)) (λ a.
-        let not10 = and-both (a .0) in
-        let not8 = and-both (not10 .0) in
-        let not7 = and-both (not8 .0) in
-        let limits = and-both (not7 .0) in
-        Shows.word (leb-true _ _ (limits .0)) (leb-true _ _ (limits .1)) (other (not7 .1)) (other (not8 .1)) (other (not10 .1)) (a .1) (a .2)) (told-bad Number (told-proposal n m ws) q)
-      where
-        other : {k : ℕ} → not (e is k) ≡ true → e ≡ k → ⊥
-        other h = eqb-false _ _ (not-true _ h)
+        ([], rw (a, b, d) (FormRow.long (leb-false _ _ l)))
+    go true l q = shows (told-bad (Row n m ws) (told-proposal n m ws) q)

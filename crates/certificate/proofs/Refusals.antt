@@ -1,66 +1,75 @@
--- What each refusal of a certificate's words shows.
+-- What each refusal of a certificate's lines shows, and what is wrong there.
 use Prim.Native.Nat.{ℕ, zero, suc, _≤_}
-use mathlib.Core.Path.{_≡_, refl}
-use mathlib.Core.Bool.{Bool, true, not}
-use mathlib.Core.List.{List, []}
+use mathlib.Core.Path.{_≡_, refl, sym, ap, _∙_}
+use mathlib.Core.Bool.{false, not}
+use mathlib.Core.List.{List, [], _∷_, _++_, append-assoc, append-nil}
 use native.Mathlib.Omega.{arith}
-use lib.Dec.{leb}
-use lib.ListN.{length}
-use Rattle.words.specs.Out.{Out, then, after}
+use lib.ListN.{length, drop}
+use borrow.Author.Tests.{not-false}
+use Rattle.words.specs.Out.{word}
+use Rattle.words.specs.Code.{codeAll}
 use Rattle.words.specs.declared.Range.the-variants.{Below}
-use Rattle.words.proofs.Shown.{Told, read, told-then, told-then-ok, told-made, told-need, told-word, told-ranged, told-listed, told-times, told-section, told-after}
-use Rattle.meaning.specs.Tests.{_and_, _is_}
-use Rattle.meaning.specs.Papers.{Literal, Certificate, witness, proof}
+use Rattle.words.proofs.Promise.{Spans, spans-none, spans-join}
+use Rattle.words.proofs.Shown.{Told, read, told-then, told-then-ok, told-made, told-need, told-word, told-ranged, told-listed, told-times}
+use Rattle.meaning.specs.Papers.{Literal}
+use Rattle.meaning.specs.Rules.{sameStatement}
+use Rattle.meaning.proofs.Tests.{any-at}
+use Rattle.meaning.proofs.Sound.{sameStatement→≡}
+use Rattle.promise.specs.Code.{codeLiteral}
 use Rattle.promise.specs.Line.{dataCount}
-use Rattle.dossier.specs.Read.{ended}
-use Rattle.dossier.proofs.Refusals.{told-choose, told-clause, told-ended}
-use Rattle.certificate.specs.Read.{statement, literal, spoken, literals, line, witnessFrom, proofFrom, proposal}
+use Rattle.promise.specs.Table as table
+use Rattle.promise.specs.Table.{Sheet, Wrong}
+use Rattle.promise.proofs.Table.{None, wrong-limit}
+use Rattle.certificate.specs.Read.{statement, literal, spoken, literals, line}
 use Rattle.certificate.proofs.Items.{reads-literal}
 
--- the numbers that show a word
-unfoldable pub shown : ℕ → Bool
-shown e = leb 2 e and leb e 13 and not (e is 7) and not (e is 8) and not (e is 10)
-
-abbrev pub Number : ℕ → Type 0
-Number e = shown e ≡ true
+-- one thing more
+code-more : (before : List Literal) (l : Literal) → codeAll codeLiteral (before ++ (l ∷ [])) ≡ codeAll codeLiteral before ++ codeLiteral l
+unfolding codeAll
+code-more [] l = append-nil (codeLiteral l)
+code-more (x ∷ before) l = ap (λ (r : List ℕ). codeLiteral x ++ r) (code-more before l) ∙ sym (append-assoc (codeLiteral x) (codeAll codeLiteral before) (codeLiteral l))
 
 module _ (n m : ℕ) (ws : List ℕ) where
-  told-statement : (at : ℕ) → Told Number (length ws) (statement n m ws at)
-  unfolding statement shown _and_ _is_
+  abbrev pub Row : ℕ → ℕ → Type 0
+  Row = Wrong (λ k. k ≡ n) (λ k. k ≡ m) None ws Sheet.certificate
+
+  told-statement : (at : ℕ) → Told Row (length ws) (statement n m ws at)
+  unfolding statement
   told-statement at =
-      told-then Number _ (told-listed Number ws refl (Below m 6) refl refl 0 33 at) (λ S p i.
-      told-then Number _ (told-listed Number ws refl (Below n 3) refl refl 0 9 p) (λ X q j.
-      told-made Number _ (told-ranged Number ws refl 0 n q)))
+      told-then Row _ (told-listed Row ws (λ p q z h. Wrong.order q z h) (Below m 6) (λ p h. Wrong.credential refl h) 0 33 at (wrong-limit table.named)) (λ S p i.
+      told-then Row _ (told-listed Row ws (λ p q z h. Wrong.order q z h) (Below n 3) (λ p h. Wrong.atom refl h) 0 9 p (wrong-limit table.supposed)) (λ X q j.
+      told-made Row _ (told-ranged Row ws 0 n q (λ o. Wrong.atom refl (omega (arith, o (omega arith)))))))
 
-  told-literal : (at : ℕ) → Told Number (length ws) (literal n m ws at)
-  unfolding literal shown _and_ _is_
-  told-literal at = told-then Number _ (told-ranged Number ws refl 0 2 at) (λ g p i. told-made Number _ (told-statement p))
+  told-literal : (at : ℕ) → Told Row (length ws) (literal n m ws at)
+  unfolding literal
+  told-literal at = told-then Row _ (told-ranged Row ws 0 2 at (λ o. Wrong.mark (omega (arith, o (omega arith))))) (λ g p i. told-made Row _ (told-statement p))
 
-  -- 13 shows the sign of a literal that was read
-  pub told-literals : (k : ℕ) (before : List Literal) (at : ℕ) → at ≤ length ws → Told Number (length ws) (literals n m k before ws at)
-  unfolding literals shown _and_ _is_
-  told-literals zero before at h = read h
-  told-literals (suc k) before at h =
-      told-then-ok Number _ (reads-literal n m .sound ws at) (told-literal at) (λ l p s i.
-      told-need Number (not (spoken (l .said) before)) refl (λ _. omega (arith, s .0 .next)) (λ _. told-made Number _ (told-literals k _ p i)))
+  -- 13 shows the sign of a literal that was read; those before it lie from s on
+  twice : (s at p : ℕ) (before : List Literal) (l : Literal) → Spans ws s (codeAll codeLiteral before) at → Spans ws at (codeLiteral l) p → not (spoken (l .said) before) ≡ false → Row 13 at
+  unfolding spoken
+  twice s at p before l b t h =
+      let (x, i, e) = any-at (λ y. sameStatement (y .said) (l .said)) before (not-false _ h) in
+      Wrong.twice s before l x (drop p ws) (b .words ∙ ap (λ (r : List ℕ). codeAll codeLiteral before ++ r) (t .words)) (b .next) i (sameStatement→≡ e)
 
-pub told-line : (n m : ℕ) (ws : List ℕ) (at : ℕ) → Told Number (length ws) (line n m ws at)
-unfolding line shown _and_ _is_
-told-line n m ws at =
-    told-then Number _ (told-ranged Number ws refl 1 9 at) (λ r p i.
-    told-then Number _ (told-times Number (told-word Number) (dataCount r) ws p i) (λ d q j.
-    told-then Number _ (told-ranged Number ws refl 0 9 q) (λ k t o.
-    told-made Number _ (told-literals n m ws k [] t o))))
+  more : (s at p : ℕ) (before : List Literal) (l : Literal) → Spans ws s (codeAll codeLiteral before) at → Spans ws at (codeLiteral l) p → Spans ws s (codeAll codeLiteral (before ++ (l ∷ []))) p
+  more s at p before l b t = rw (code-more before l) (spans-join b t)
 
--- a section from p on, and no word after it
-told-from : {A : Type 0} {r : List ℕ → ℕ → Out A} → ((ws : List ℕ) (at : ℕ) → Told Number (length ws) (r ws at)) → (mk : A → Certificate) (ws : List ℕ) (p : ℕ) → p ≤ length ws → Told Number (length ws) (then (after r ws p) (λ x q. ended ws (mk x) q))
-unfolding shown _and_ _is_
-told-from told mk ws p h = told-then Number _ (told-after Number told ws p h) (λ x q i. told-ended Number refl ws (mk x) q i)
+  told-literals-after : (k : ℕ) (s : ℕ) (before : List Literal) (at : ℕ) → Spans ws s (codeAll codeLiteral before) at → at ≤ length ws → Told Row (length ws) (literals n m k before ws at)
+  unfolding literals
+  told-literals-after zero s before at b h = read h
+  told-literals-after (suc k) s before at b h =
+      told-then-ok Row _ (reads-literal n m .sound ws at) (told-literal at) (λ l p t i.
+      told-need Row (not (spoken (l .said) before)) (twice s at p before l b (t .0)) (λ _. omega (arith, t .0 .next)) (λ _.
+      told-made Row _ (told-literals-after k s (before ++ (l ∷ [])) p (more s at p before l b (t .0)) i)))
 
-pub told-proposal : (n m : ℕ) (ws : List ℕ) → Told Number (length ws) (proposal n m ws)
-unfolding proposal witnessFrom proofFrom shown _and_ _is_
-told-proposal n m ws =
-    told-then Number _ (told-ranged Number ws refl 1 3 0) (λ x p i.
-    told-choose Number (x is 1)
-    (told-from (told-section Number (told-clause Number refl refl refl n) refl 0 129) witness ws p i)
-    (told-from (told-section Number (told-line n m) refl 1 1025) proof ws p i))
+  pub told-literals : (k at : ℕ) → at ≤ length ws → Told Row (length ws) (literals n m k [] ws at)
+  unfolding codeAll
+  told-literals k at h = told-literals-after k at [] at (spans-none ws at) h
+
+  pub told-line : (at : ℕ) → Told Row (length ws) (line n m ws at)
+  unfolding line
+  told-line at =
+      told-then Row _ (told-ranged Row ws 1 9 at (λ o. Wrong.rule (λ a b. o a (omega (arith, b))))) (λ r p i.
+      told-then Row _ (told-times Row ws word (told-word Row ws) (dataCount r) p i) (λ d q j.
+      told-then Row _ (told-ranged Row ws 0 9 q (wrong-limit table.literals)) (λ k t o.
+      told-made Row _ (told-literals k t o))))

@@ -1,5 +1,5 @@
 -- What the reader promises of a certificate, each as a type; proofs/Promise.antt has each under the same name in small letters.
-use Prim.Native.Nat.{ℕ, _≤_, _<_}
+use Prim.Native.Nat.{ℕ, _≤_}
 use mathlib.Core.Path.{_≡_}
 use mathlib.Core.List.{List}
 use lib.ListN.{length}
@@ -8,6 +8,7 @@ use Rattle.meaning.specs.Policy.{Policy}
 use Rattle.meaning.specs.Papers.{Certificate, witness}
 use Rattle.promise.specs.Code.{codeCertificate}
 use Rattle.promise.specs.Form.{CertificateForm}
+use Rattle.promise.specs.Table.{CertificateRow}
 use Rattle.certificate.specs.Read.{certificate}
 
 -- What is accepted is the code of a well-formed certificate, to the last word (of which there are at most 24,000: `CertificateForm`).
@@ -28,12 +29,6 @@ CertificateMore =
     ((n m k : ℕ) (C : Certificate) → m ≤ k → CertificateForm n m C → CertificateForm n k C)
     × ((n m k : ℕ) (W : Policy) → CertificateForm n m (witness W) → CertificateForm n k (witness W))
 
--- A refusal shows what the table names: 1 the empty part at the end, 10 the empty part at the start, the others one word of the paper.
--- 7 and 8 are of formulas, and a certificate has none.
-pub data Shows (ws : List ℕ) : ℕ → ℕ → ℕ → Type 0 where
-  ended : {e p w : ℕ} → e ≡ 1 → p ≡ length ws → w ≡ 0 → Shows ws e p w
-  long : {e p w : ℕ} → e ≡ 10 → p ≡ 0 → w ≡ 0 → Shows ws e p w
-  word : {e p w : ℕ} → 2 ≤ e → e ≤ 13 → (e ≡ 7 → ⊥) → (e ≡ 8 → ⊥) → (e ≡ 10 → ⊥) → p < length ws → w ≡ 1 → Shows ws e p w
-
+-- A refusal is a row of the table: what is wrong, and the words that are shown.
 abbrev pub CertificateShows : Type 0
-CertificateShows = (n m : ℕ) (ws : List ℕ) (e p w : ℕ) → certificate n m ws ≡ bad e p w → Shows ws e p w
+CertificateShows = (n m : ℕ) (ws : List ℕ) (e p w : ℕ) → certificate n m ws ≡ bad e p w → (us : List ℕ) × CertificateRow n m ws e p w us

@@ -1,16 +1,16 @@
 -- What the readers of clauses, formulas and entries promise: they accept the codes of well-formed ones, and nothing else.
 use Prim.Native.Nat.{ℕ, zero, suc, _+_, _<_, _≤_}
-use mathlib.Core.Path.{_≡_, refl, sym, ap, _∙_, subst}
+use mathlib.Core.Path.{_≡_, refl, sym, ap, subst}
 use mathlib.Core.Bool.{Bool, true, false}
-use mathlib.Core.List.{List, [], _∷_, _++_, append-assoc}
+use mathlib.Core.List.{List, [], _∷_, _++_}
 use native.Mathlib.Omega.{arith}
 use lib.Dec.{ltb, leb, eqb}
 use lib.ListN.{length, getD, drop, length-append, length-drop}
-use borrow.Author.Tests.{ltb-true, leb-true, ltb-false, eqb-true, eqb-false, lt-ltb, le-ltb, le-leb, eq-eqb, ne-eqb}
+use borrow.Author.Tests.{ltb-true, leb-true, ltb-false, eqb-true, eqb-false, le-leb, eq-eqb}
 use Rattle.words.specs.Out.{Out, got, present}
 use Rattle.words.specs.Code.{codeList}
 use Rattle.words.specs.declared.Range.the-variants.{Below}
-use Rattle.words.proofs.Promise.{OK, fine, none, ok-then, ok-made, ok-need, In, Spans, spans-word, spans-join, lies, past, Reads, reads-as, reads-then, reads-ranged, reads-listed}
+use Rattle.words.proofs.Promise.{OK, fine, none, ok-then, ok-made, ok-need, In, in-then, in-made, Spans, spans-word, spans-join, lies, Reads, reads-as, reads-then, reads-ranged, reads-listed}
 use Rattle.words.proofs.Shown.{told-inside}
 use Rattle.meaning.specs.Tests.{_is_, choose}
 use Rattle.meaning.specs.Formula.{Formula, always, atom, neg, conj, disj}
@@ -18,7 +18,8 @@ use Rattle.promise.specs.Code.{bit, codeClause, codeMarked, codeFormula, codeEn
 use Rattle.promise.specs.Form.{ClauseForm, FormulaForm, EntryForm}
 use Rattle.promise.proofs.Seen.{is-bit}
 use Rattle.dossier.specs.Read.{clause, marked, byKind, operand, formula, entry}
-use Rattle.dossier.proofs.Refusals.{Number, told-formula, told-entry}
+use Rattle.dossier.proofs.Coded.{both, exact-operand}
+use Rattle.dossier.proofs.Refusals.{told-formula}
 
 -- ---- clauses
 
@@ -63,10 +64,6 @@ ok-present : {A : Type 0} {P : A → ℕ → Type 0} (b : Bool) (ws : List ℕ) 
 ok-present true ws f = f refl
 ok-present false ws f = none
 
--- the joined formula of a word that is 258 or 259
-abbrev both : ℕ → Formula → Formula → Formula
-both x f g = choose (x is 258) (conj f g) (disj f g)
-
 module _ (x : ℕ) (f g : Formula) (low : 256 ≤ x) (h₁ : x ≡ 256 → ⊥) (h₂ : x ≡ 257 → ⊥) (h₃ : x ≤ 259) where
   code-both : codeFormula (both x f g) ≡ x ∷ (codeFormula f ++ codeFormula g)
   unfolding choose _is_ codeFormula
@@ -101,55 +98,6 @@ ok-operand n lp end (suc d) ws fits at =
     ok-made (both x f) (ok-operand n lp end d ws fits p) (λ g q u.
     (subst (λ (l : List ℕ). Spans ws at l q) (sym (code-both x f g (ltb-false _ _ b) (eqb-false _ _ e) (eqb-false _ _ k) (ltb-false _ _ z))) (spans-join s (spans-join (t .0) (u .0))), form-both n d x f g (t .1) (u .1))))))))))
 
--- ---- formulas: what is well formed is accepted
-
-module _ (n lp end : ℕ) (ws : List ℕ) (small : n ≤ 256) where
-  -- both operands of a word that is 258 or 259
-  exact-both : (d at x : ℕ) (f g : Formula) → 257 < x → x ≤ 259 → at < end → getD ws at 0 ≡ x
-      → operand n lp end d ws (at + 1) ≡ got f (at + 1 + length (codeFormula f))
-      → operand n lp end d ws (at + 1 + length (codeFormula f)) ≡ got g (at + 1 + length (codeFormula f) + length (codeFormula g))
-      → operand n lp end (suc d) ws at ≡ got (both x f g) (at + suc (length (codeFormula f ++ codeFormula g)))
-  unfolding operand byKind choose _is_
-  exact-both d at x f g lo hi i w ef eg =
-      let a : n ≤ x = omega arith in
-      let b : 256 ≤ x = omega arith in
-      let c : x ≡ 256 → ⊥ = λ z. omega (arith, z) in
-      let e : x ≡ 257 → ⊥ = λ z. omega (arith, z) in
-      let q : at + 1 + length (codeFormula f) + length (codeFormula g) ≡ at + suc (length (codeFormula f ++ codeFormula g)) = omega (arith, length-append (codeFormula f) (codeFormula g)) in
-      simp (w, lt-ltb _ _ i, le-ltb _ _ a, le-ltb _ _ b, ne-eqb _ _ c, ne-eqb _ _ e, le-ltb _ _ hi, ef, eg) (ap (got (both x f g)) q)
-
-  exact-operand : (d at : ℕ) (f : Formula) (rest : List ℕ) → drop at ws ≡ codeFormula f ++ rest → FormulaForm n d f → at + length (codeFormula f) ≤ end → operand n lp end d ws at ≡ got f (at + length (codeFormula f))
-  unfolding operand byKind FormulaForm codeFormula choose _is_
-  exact-operand zero at f rest w s h = absurd s
-  exact-operand (suc d) at (atom a) rest w s h =
-      let l = lies ws at w in
-      let i : at < end = omega arith in
-      simp (l .this, lt-ltb _ _ i, lt-ltb _ _ s)
-  exact-operand (suc d) at always rest w s h =
-      let l = lies ws at w in
-      let i : at < end = omega arith in
-      simp (l .this, lt-ltb _ _ i, le-ltb _ _ small)
-  exact-operand (suc d) at (neg f) rest w s h =
-      let l = lies ws at w in
-      let i : at < end = omega arith in
-      let k : n ≤ 257 = omega arith in
-      let e : at + 1 + length (codeFormula f) ≡ at + suc (length (codeFormula f)) = omega arith in
-      simp (l .this, lt-ltb _ _ i, le-ltb _ _ k, exact-operand d (at + 1) f rest (l .after) s (omega arith)) (ap (got (neg f)) e)
-  exact-operand (suc d) at (conj f g) rest w s h =
-      let l = lies ws at w in
-      let v = l .after ∙ append-assoc (codeFormula f) (codeFormula g) rest in
-      let k = length-append (codeFormula f) (codeFormula g) in
-      exact-both d at 258 f g (omega arith) (omega arith) (omega arith) (l .this)
-      (exact-operand d (at + 1) f (codeFormula g ++ rest) v (s .0) (omega arith))
-      (exact-operand d (at + 1 + length (codeFormula f)) g rest (past ws (at + 1) (codeFormula f) v) (s .1) (omega arith))
-  exact-operand (suc d) at (disj f g) rest w s h =
-      let l = lies ws at w in
-      let v = l .after ∙ append-assoc (codeFormula f) (codeFormula g) rest in
-      let k = length-append (codeFormula f) (codeFormula g) in
-      exact-both d at 259 f g (omega arith) (omega arith) (omega arith) (l .this)
-      (exact-operand d (at + 1) f (codeFormula g ++ rest) v (s .0) (omega arith))
-      (exact-operand d (at + 1 + length (codeFormula f)) g rest (past ws (at + 1) (codeFormula f) v) (s .1) (omega arith))
-
 -- ---- a formula after its length
 
 code-some : (g : Formula) → 1 ≤ length (codeFormula g)
@@ -161,12 +109,16 @@ code-some (conj g h) = omega arith
 code-some (disj g h) = omega arith
 
 -- for every number of atoms, every place lies in the paper
+in-formula : (n : ℕ) (ws : List ℕ) (at : ℕ) → In (length ws) (formula n ws at)
+in-formula n ws at = told-inside _ (told-formula (λ e p. Unit {0}) n ws (λ p h g. tt) (λ p h. tt) (λ p h. tt) (λ p h. tt) at)
+
 pub in-entry : (n m : ℕ) (ws : List ℕ) (at : ℕ) → at ≤ length ws → In (length ws) (entry n m ws at)
-in-entry n m ws at h = told-inside Number (told-entry n m ws at)
+unfolding entry
+in-entry n m ws at h = in-then _ (reads-listed 0 33 (Below m 6) .inside ws at h) (λ S p i. in-made _ (in-formula n ws p))
 
 pub reads-formula : (n : ℕ) → n ≤ 256 → Reads (formula n) (λ f. codeList (codeFormula f)) (λ f. FormulaForm n 16 f × (length (codeFormula f) ≤ 64))
 unfolding formula
-reads-formula n small = record { sound = sound; exact = exact; inside = λ ws at h. told-inside Number (told-formula n ws at) }
+reads-formula n small = record { sound = sound; exact = exact; inside = λ ws at h. in-formula n ws at }
   where
     sound : (ws : List ℕ) (at : ℕ) → OK (λ f p. Spans ws at (codeList (codeFormula f)) p × (FormulaForm n 16 f × (length (codeFormula f) ≤ 64))) (formula n ws at)
     sound ws at =

@@ -5,3 +5,5 @@ pub mod Items
 pub mod Chain
 pub mod Longest
 pub mod Promise
+pub mod Coded
+pub mod Rows

@@ -1,25 +1,26 @@
 -- The theorems of specs/Promise.antt, each under its name in small letters.
-use Prim.Native.Nat.{ℕ, _+_, _≤_}
+use Prim.Native.Nat.{ℕ, _+_, _≤_, _<_}
 use mathlib.Core.Path.{_≡_, refl, sym, ap, _∙_}
 use mathlib.Core.List.{List, [], _∷_, _++_, append-nil}
-use mathlib.Core.Logic.{⊎-elim}
+use mathlib.Core.Logic.{_⊎_, inl, inr}
 use native.Mathlib.Omega.{arith}
 use lib.Dec.{leb}
-use lib.ListN.{length, drop-of-length-le}
+use lib.ListN.{length, getD, drop-of-length-le}
 use borrow.Author.Tests.{leb-true, le-leb}
 use Rattle.words.specs.Out.{got}
 use Rattle.words.specs.Code.{codeList, codeAll, codeMany}
 use Rattle.words.specs.declared.Range.the-variants.{Any}
-use Rattle.words.proofs.Promise.{OK, fine, ok-then, ok-need, ok-got, Reads, reads-as, reads-bind, reads-made, reads-ranged, reads-listed, reads-section, decoded-once}
+use Rattle.words.proofs.Promise.{OK, fine, ok-then, ok-need, ok-got, spans-whole, Reads, reads-as, reads-bind, reads-made, reads-ranged, reads-listed, reads-section, decoded-once}
 use Rattle.words.proofs.Parts.{reads-after}
-use Rattle.words.proofs.Shown.{told-bad}
-use Rattle.meaning.proofs.Tests.{and-both}
+use Rattle.words.proofs.Shown.{Told, told-bad, told-then-ok}
 use Rattle.promise.specs.Code.{codeMarked, codeClause, codeEntry, codeDossier}
 use Rattle.promise.specs.Form.{EntryForm, DossierForm}
+use Rattle.promise.specs.Table.{Wrong, FormRow, DossierRow}
 use Rattle.dossier.specs.Read.{secret, ended, sections, dossier}
-use Rattle.dossier.specs.Promise.{DossierSound, DossierAccepted, DossierOnce, Shows, DossierShows, DossierLongest}
+use Rattle.dossier.specs.Promise.{DossierSound, DossierAccepted, DossierOnce, DossierShows, DossierLongest}
 use Rattle.dossier.proofs.Items.{reads-clause, reads-marked, reads-entry}
-use Rattle.dossier.proofs.Refusals.{shown, Number, told-dossier}
+use Rattle.dossier.proofs.Refusals.{told-ended}
+use Rattle.dossier.proofs.Rows.{Row, told-sections}
 use Rattle.dossier.proofs.Longest.{dossier-most, dossier-full}
 
 -- the secret after its count, which is 1
@@ -109,12 +110,19 @@ dossierAccepted D f =
 pub dossierOnce : DossierOnce
 dossierOnce D E f g e = decoded-once reads-sections D E [] [] (ap (λ (l : List ℕ). l ++ []) e) f g
 
+-- what is known of a refusal: the words left over come after a whole dossier
+told-dossier : (ws : List ℕ) → Told (Row ws) (length ws) (dossier ws)
+unfolding dossier
+told-dossier ws =
+    told-then-ok _ _ (reads-sections .sound ws 0) (told-sections ws) (λ D p s i.
+    told-ended _ ws D p (Wrong.leftOver (D, s .1, spans-whole (codeDossier D) (s .0))) i)
+
 pub dossierShows : DossierShows
-unfolding shown
-dossierShows ws e p w q =
-    ⊎-elim (λ a. Shows.ended (a .0) (a .1) (a .2)) (λ a.
-    let b = and-both (a .0) in
-    Shows.word (leb-true _ _ (b .0)) (leb-true _ _ (b .1)) (a .1) (a .2)) (told-bad Number (told-dossier ws) q)
+dossierShows ws e p w q = go (told-bad _ (told-dossier ws) q)
+  where
+    go : ((e ≡ 1) × (p ≡ length ws) × (w ≡ 0)) ⊎ (Row ws e p × (p < length ws) × (w ≡ 1)) → (us : List ℕ) × DossierRow ws e p w us
+    go (inl (a, b, c)) = ([], rw (a, b, c) FormRow.ended)
+    go (inr (a, b, c)) = (getD ws p 0 ∷ [], rw c (FormRow.shown a b))
 
 pub dossierLongest : DossierLongest
 dossierLongest = (dossier-most, dossier-full)

@@ -1,5 +1,5 @@
 -- What the reader promises of a dossier, each as a type; proofs/Promise.antt has each under the same name in small letters.
-use Prim.Native.Nat.{ℕ, _≤_, _<_}
+use Prim.Native.Nat.{ℕ, _≤_}
 use mathlib.Core.Path.{_≡_}
 use mathlib.Core.List.{List}
 use lib.ListN.{length}
@@ -7,6 +7,7 @@ use Rattle.words.specs.Out.{got, bad}
 use Rattle.meaning.specs.Papers.{Dossier}
 use Rattle.promise.specs.Code.{codeDossier}
 use Rattle.promise.specs.Form.{DossierForm}
+use Rattle.promise.specs.Table.{DossierRow}
 use Rattle.dossier.specs.Read.{dossier}
 
 -- What is accepted is the code of a well-formed dossier, to the last word.
@@ -21,13 +22,9 @@ DossierAccepted = (D : Dossier) → DossierForm D → dossier (codeDossier D) �
 abbrev pub DossierOnce : Type 0
 DossierOnce = (D E : Dossier) → DossierForm D → DossierForm E → codeDossier D ≡ codeDossier E → D ≡ E
 
--- A refusal shows what the table names: 1 the empty part at the end, 2 to 9 one word of the paper.
-pub data Shows (ws : List ℕ) : ℕ → ℕ → ℕ → Type 0 where
-  ended : {e p w : ℕ} → e ≡ 1 → p ≡ length ws → w ≡ 0 → Shows ws e p w
-  word : {e p w : ℕ} → 2 ≤ e → e ≤ 9 → p < length ws → w ≡ 1 → Shows ws e p w
-
+-- A refusal is a row of the table: what is wrong, and the words that are shown.
 abbrev pub DossierShows : Type 0
-DossierShows = (ws : List ℕ) (e p w : ℕ) → dossier ws ≡ bad e p w → Shows ws e p w
+DossierShows = (ws : List ℕ) (e p w : ℕ) → dossier ws ≡ bad e p w → (us : List ℕ) × DossierRow ws e p w us
 
 -- "The longest sound dossier has 8,167 words."
 abbrev pub DossierLongest : Type 0

@@ -7,7 +7,13 @@ use lib.ListN.{length, length-append}
 use Rattle.words.specs.Out.{Out, got, bad}
 use Rattle.meaning.specs.Tests.{_∈_}
 use Rattle.meaning.specs.Policy.{Policy}
-use Rattle.meaning.specs.Papers.{Dossier, Entry, Line, Certificate, witness, proof}
+use mathlib.Core.Bool.{Bool, true, false}
+use mathlib.Core.Logic.{_↔_}
+use Rattle.meaning.specs.Papers.{Dossier, Entry, policy, answer, Line, Certificate, witness, proof}
+use Rattle.meaning.proofs.Tests.{clash, named-is}
+use Rattle.meaning.proofs.Truth.{yes-tested}
+use Rattle.promise.specs.Code.{bit}
+use Rattle.judging.specs.Answers.{wordTo}
 use Rattle.meaning.specs.Looks.{Detectable}
 use Rattle.meaning.specs.Verdict as meant
 use Rattle.meaning.specs.Demands as decoded
@@ -27,7 +33,7 @@ use Rattle.reply.specs.declared.Verdict as said
 use Rattle.reply.specs.declared.Verdict.the-variants as verdict
 use Rattle.verdict.specs.Told.{showing, replyAt, sizeOf}
 use Rattle.judging.specs.Judge.{judgeProposal, judgeRead, judgeOf}
-use Rattle.judging.specs.Demands.{SaysOpaque, SaysDetectable, SoundFor, Demand2, Demand3}
+use Rattle.judging.specs.Demands.{SaysOpaque, SaysDetectable, SoundFor, Demand2, Demand3, AnswersMeant}
 
 -- ---- a reply tells its outcome
 
@@ -160,3 +166,15 @@ demand3 =
       noWitness = λ D E x f g c w h i. let (ls, e, s, a) = detectable-meant D f c h in let (W, e', s', b) = opaque-meant E g w i in shown.demand3 .noWitness D E x (well-named D f) ls a W b;
       witnessStays = λ D E x f g q w i. let (W, e, s, b) = opaque-meant E g w i in meant-opaque D f w (witness W) e (sound-fewer D E x W s) (shown.demand3 .witnessStays D E x (well-named D f) q W b);
     }
+
+-- ---- the answers
+
+bit-yes : (b : Bool) → (bit b ≤ 1) × ((bit b ≡ 1) ↔ (b ≡ true))
+bit-yes true = (omega arith, (λ e. refl, λ e. refl))
+bit-yes false = (omega arith, (λ e. absurd (omega (arith, e)), λ e. clash e refl))
+
+pub answersMeant : AnswersMeant
+unfolding wordTo
+answersMeant D j e h =
+    let y = yes-tested D (policy D) e in
+    rw (named-is (λ x. answer D (policy D) x) h) (bit-yes (answer D (policy D) e) .0, (λ i. y .1 (bit-yes (answer D (policy D) e) .1 .0 i), λ i. bit-yes (answer D (policy D) e) .1 .1 (y .0 i)))

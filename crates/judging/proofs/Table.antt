@@ -1,53 +1,217 @@
 -- Demand 1: `demand1`.
-use Prim.Native.Nat.{ℕ}
-use mathlib.Core.Path.{_≡_, refl, sym, ap, _∙_}
+use Prim.Native.Nat.{ℕ, _-_, _≤_}
+use mathlib.Core.Path.{_≡_, refl, sym, ap, ap₂, _∙_, subst, subst₂}
 use mathlib.Core.List.{List}
-use lib.ListN.{length}
+use mathlib.Core.Option.{some, Option·some-injective, Option·none-ne-some}
+use native.Mathlib.Omega.{arith}
+use lib.ListN.{length, take}
+use lib.Seq.{drop-cons}
+use lib.Dec.{leb}
+use borrow.Author.Tests.{le-leb, lt-leb, leb-true, leb-false}
+use mathlib.Core.Bool.{Bool, true, false}
+use Rattle.meaning.specs.Tests.{choose}
 use Rattle.words.specs.Out.{Out, got, bad}
 use Rattle.meaning.specs.Papers as papers
+use Rattle.meaning.specs.Papers.{witness, proof}
 use Rattle.meaning.specs.Verdict as meant
+use Rattle.meaning.specs.Demands.{When}
 use Rattle.meaning.proofs.Demands as shown
+use Rattle.meaning.proofs.Tests.{below-at}
 use Rattle.promise.specs.Code.{codeDossier, codeCertificate}
+use Rattle.promise.specs.Form.{DossierForm, PartsForm}
 use Rattle.promise.specs.Layout.{layoutOf, proposalOf}
+use Rattle.promise.specs.Place.{Kind}
+use Rattle.promise.specs.Line.{line}
+use Rattle.promise.specs.Table.{Sheet, Wrong, FormRow}
+use Rattle.promise.specs.Thing.{nextOf}
 use Rattle.dossier.specs.Read.{dossier}
-use Rattle.dossier.proofs.Promise.{dossierSound, dossierShows}
+use Rattle.dossier.proofs.Promise.{dossierSound, dossierAccepted, dossierShows}
 use Rattle.certificate.specs.Read.{certificate}
 use Rattle.certificate.proofs.Promise.{certificateSound, certificateShows}
+use Rattle.reply.specs.Answer.{numberOf, refused}
+use Rattle.reply.specs.Part.{partOf}
+use Rattle.reply.specs.Shown.{shownOf}
+use Rattle.reply.specs.declared.Paper.{Paper}
+use Rattle.reply.specs.declared.Paper.the-variants.{Dossier, Certificate}
 use Rattle.reply.specs.declared.Reply.{Reply}
-use Rattle.verdict.specs.Told.{replyAt, sizeOf}
+use Rattle.reply.proofs.Part.{fits}
+use Rattle.verdict.specs.Told.{showing, replyAt, sizeOf}
 use Rattle.judging.specs.Judge.{judgeProposal, judgeRead, judgeOf}
-use Rattle.judging.specs.Table.{Row, inDossier, inCertificate, inMeaning, Demand1}
+use Rattle.judging.specs.Answers.{countOf, tableOf, answersOf, tableAfter}
+use Rattle.judging.specs.Table.{Both, Row, AnswersRow, partShown, Demand1}
+use Rattle.judging.specs.declared.Answered.{Answered}
+use Rattle.judging.specs.declared.Answered.the-variants.{Refused}
+use Rattle.judging.proofs.Judged.{answers-refused}
 use Rattle.judging.proofs.Demands.{judged}
+use Rattle.judging.proofs.Shows.{Stands, entries, probe-stands, secret-stands, line-stands}
+
+-- ---- the rows of form
+
+module _ {N M : ℕ → Type 0} {Whole : List ℕ → Type 0} {ws : List ℕ} where
+  wrong-number : {s : Sheet} {e p : ℕ} → Wrong N M Whole ws s e p → (1 ≤ e) × (e ≤ 13)
+  wrong-number (Wrong.limits l f) = (omega arith, omega arith)
+  wrong-number (Wrong.atom n h) = (omega arith, omega arith)
+  wrong-number (Wrong.inFormula n h g) = (omega arith, omega arith)
+  wrong-number (Wrong.order q z h) = (omega arith, omega arith)
+  wrong-number (Wrong.mark h) = (omega arith, omega arith)
+  wrong-number (Wrong.credential m h) = (omega arith, omega arith)
+  wrong-number (Wrong.word h) = (omega arith, omega arith)
+  wrong-number (Wrong.formula f) = (omega arith, omega arith)
+  wrong-number (Wrong.leftOver w) = (omega arith, omega arith)
+  wrong-number (Wrong.kind f g) = (omega arith, omega arith)
+  wrong-number (Wrong.rule f) = (omega arith, omega arith)
+  wrong-number (Wrong.twice q before l m rest w z i h) = (omega arith, omega arith)
+
+  form-number : {s : Sheet} {e p w : ℕ} {us : List ℕ} → FormRow N M Whole ws s e p w us → (1 ≤ e) × (e ≤ 13)
+  form-number FormRow.ended = (omega arith, omega arith)
+  form-number (FormRow.shown f h) = wrong-number f
+  form-number (FormRow.long h) = (omega arith, omega arith)
+
+  form-shown : {s : Sheet} {e p w : ℕ} {us : List ℕ} → FormRow N M Whole ws s e p w us → us ≡ partOf ws p w
+  form-shown FormRow.ended = sym (fits ws (length ws) 0 (omega arith))
+  form-shown (FormRow.shown {p = p} f h) = sym (fits ws p 1 (omega arith) ∙ ap (take 1) (drop-cons ws p 0 h))
+  form-shown (FormRow.long h) = sym (fits ws 0 0 (omega arith))
+
+-- ---- the rows of meaning
+
+-- a thing that stands there is what the refusal shows
+module _ (number : ℕ) (paper : Paper) where
+  refused-at : {A : Type 0} (K : Kind A) (ws : List ℕ) (p there : ℕ) (code : List ℕ) → Stands K ws p there code → refused number paper p (K .next ws p - p) ≡ refused number paper there (length code)
+  refused-at K ws p there code s = ap₂ (refused number paper) (s .place) (s .size)
+
+-- a number that lies in the table
+of-number : {e k : ℕ} → some e ≡ some k → 1 ≤ e → e ≤ 17 → (1 ≤ k) × (k ≤ 17)
+of-number {e} {k} q a b = let z : e ≡ k = Option·some-injective e k q in (omega arith, omega arith)
+
+-- the judge's reply is r, and what is shown for it is us
+abbrev Gives : List ℕ → List ℕ → Reply → List ℕ → Type 0
+Gives d c r us = (r ≡ judgeOf d c) × (us ≡ shownOf d c r)
+
+-- the reply for an outcome, of the words of sound papers
+abbrev replyTo : papers.Dossier → papers.Certificate → meant.Outcome → Reply
+replyTo D C o = replyAt (codeDossier D) (layoutOf D) (codeCertificate C) (sizeOf (proposalOf C)) o
+
+module _ {d c : List ℕ} {D : papers.Dossier} {C : papers.Certificate} (b : Both d c D C) where
+  gives : (o : meant.Outcome) → When D C o → {r : Reply} {us : List ℕ} → replyTo D C o ≡ r → shownOf (codeDossier D) (codeCertificate C) r ≡ us → Gives d c r us
+  gives o w {r} {us} e h =
+      let j : judgeOf (codeDossier D) (codeCertificate C) ≡ r = judged D (b .form) C (b .sound) ∙ ap (replyTo D C) (shown.demand2 D C o .1 w) ∙ e in
+      subst₂ (λ (x y : List ℕ). Gives x y r us) (sym (b .dossierWords)) (sym (b .certificateWords)) (sym j, sym h)
 
 module _ (d c : List ℕ) where
-  by-certificate : (D : papers.Dossier) (q : ℕ) → dossier d ≡ got D q → (out : Out papers.Certificate) → certificate (length (D .labels)) (length (D .creds)) c ≡ out → Row d c (judgeProposal d D c out)
-  unfolding judgeProposal
+  row-gives : (r : Reply) (us : List ℕ) → Row d c r us → Gives d c r us
+  unfolding judgeOf judgeRead judgeProposal shownOf replyAt showing nextOf layoutOf proposalOf
+  row-gives r us (Row.inDossier h s) = (ap (λ (x : Out papers.Dossier). judgeRead d x c) (sym h), form-shown s)
+  row-gives r us (Row.inCertificate {D = D} h g s) =
+      (ap (λ (x : Out papers.Certificate). judgeProposal d D c x) (sym g) ∙ ap (λ (x : Out papers.Dossier). judgeRead d x c) (sym h), form-shown s)
+  row-gives r us (Row.opaque D W b w) = gives b meant.opaque w refl (fits _ 0 0 (omega arith))
+  row-gives r us (Row.detectable D ls b w) = gives b meant.detectable w refl (fits _ 0 0 (omega arith))
+  row-gives r us (Row.probe D W k e b w h) = let s = probe-stands D (b .form) k e h in gives b (meant.probeDiffers k) w (refused-at 14 Dossier (entries D (b .form)) _ _ _ _ s) (s .shown)
+  row-gives r us (Row.secret D W b w) = let s = secret-stands D (b .form) in gives b meant.secretTrue w (refused-at 15 Dossier (entries D (b .form)) _ _ _ _ s) (s .shown)
+  row-gives r us (Row.line D ls k l b w h) = let s = line-stands D ls (b .sound) k l h in gives b (meant.lineFails k) w (refused-at 16 Certificate line _ _ _ _ s) (s .shown)
+  row-gives r us (Row.last D ls l b w h) = let s = line-stands D ls (b .sound) (length ls - 1) l h in gives b meant.lastNotEmpty w (refused-at 17 Certificate line _ _ _ _ s) (s .shown)
+
+  -- ---- some row applies
+
+  abbrev Applies : Type 0
+  Applies = (r : Reply) × ((us : List ℕ) × Row d c r us)
+
+  by-meaning : (D : papers.Dossier) (C : papers.Certificate) → Both d c D C → (o : meant.Outcome) → When D C o → Applies
+  unfolding When PartsForm
+  by-meaning D (witness W) b meant.opaque w = (_, (_, Row.opaque D W b w))
+  by-meaning D (witness W) b (meant.probeDiffers k) w = let (e, h, n) = w .here in (_, (_, Row.probe D W k e b w h))
+  by-meaning D (witness W) b meant.secretTrue w = (_, (_, Row.secret D W b w))
+  by-meaning D (witness W) b meant.detectable w = absurd w
+  by-meaning D (witness W) b (meant.lineFails k) w = absurd w
+  by-meaning D (witness W) b meant.lastNotEmpty w = absurd w
+  by-meaning D (proof ls) b meant.detectable w = (_, (_, Row.detectable D ls b w))
+  by-meaning D (proof ls) b (meant.lineFails k) w = let (l, h) = below-at ls k (w .here .0) in (_, (_, Row.line D ls k l b w h))
+  by-meaning D (proof ls) b meant.lastNotEmpty w = let (l, h) = below-at ls (length ls - 1) (omega (arith, b .sound .parts .0)) in (_, (_, Row.last D ls l b w h))
+  by-meaning D (proof ls) b meant.opaque w = absurd w
+  by-meaning D (proof ls) b (meant.probeDiffers k) w = absurd w
+  by-meaning D (proof ls) b meant.secretTrue w = absurd w
+
+  by-certificate : (D : papers.Dossier) (q : ℕ) → dossier d ≡ got D q → (out : Out papers.Certificate) → certificate (length (D .labels)) (length (D .creds)) c ≡ out → Applies
   by-certificate D q h (got C t) e =
       let s = dossierSound d D q h in
       let z = certificateSound (length (D .labels)) (length (D .creds)) c C t e in
-      inMeaning D C (meant.judge D C) (s .0) (z .0) (s .1) (z .1) (shown.demand2 D C (meant.judge D C) .0 refl)
-  by-certificate D q h (bad e p w) g = inCertificate h g (certificateShows (length (D .labels)) (length (D .creds)) c e p w g)
+      by-meaning D C (record { dossierWords = s .0; certificateWords = z .0; form = s .1; sound = z .1 }) (meant.judge D C) (shown.demand2 D C (meant.judge D C) .0 refl)
+  by-certificate D q h (bad e p w) g = let (us, s) = certificateShows (length (D .labels)) (length (D .creds)) c e p w g in (_, (us, Row.inCertificate h g s))
 
-  by-dossier : (out : Out papers.Dossier) → dossier d ≡ out → Row d c (judgeRead d out c)
-  unfolding judgeRead
+  by-dossier : (out : Out papers.Dossier) → dossier d ≡ out → Applies
   by-dossier (got D q) e = by-certificate D q e (certificate (length (D .labels)) (length (D .creds)) c) refl
-  by-dossier (bad e p w) g = inDossier g (dossierShows d e p w g)
+  by-dossier (bad e p w) g = let (us, s) = dossierShows d e p w g in (_, (us, Row.inDossier g s))
 
-  applies : Row d c (judgeOf d c)
-  unfolding judgeOf
-  applies = by-dossier (dossier d) refl
+  row : Row d c (judgeOf d c) (shownOf d c (judgeOf d c))
+  row =
+      let (r, (us, s)) = by-dossier (dossier d) refl in
+      let g = row-gives r us s in
+      subst₂ (Row d c) (g .0) (g .1 ∙ ap (shownOf d c) (g .0)) s
 
-  only : (r : Reply) → Row d c r → r ≡ judgeOf d c
-  unfolding judgeOf judgeRead judgeProposal
-  only r (inDossier h s) = ap (λ (x : Out papers.Dossier). judgeRead d x c) (sym h)
-  only r (inCertificate {D = D} h g s) =
-      ap (λ (x : Out papers.Certificate). judgeProposal d D c x) (sym g) ∙ ap (λ (x : Out papers.Dossier). judgeRead d x c) (sym h)
-  only r (inMeaning D C o h g f s w) =
-      ap (λ (x : meant.Outcome). replyAt d (layoutOf D) c (sizeOf (proposalOf C)) x) (sym (shown.demand2 D C o .1 w))
-      ∙ ap (λ (x : List ℕ). replyAt x (layoutOf D) c (sizeOf (proposalOf C)) (meant.judge D C)) h
-      ∙ ap (λ (x : List ℕ). replyAt (codeDossier D) (layoutOf D) x (sizeOf (proposalOf C)) (meant.judge D C)) g
-      ∙ sym (judged D f C s)
-      ∙ ap (λ (x : List ℕ). judgeOf x (codeCertificate C)) (sym h) ∙ ap (judgeOf d) (sym g)
+  -- ---- its number is in the table
+
+  row-number : (r : Reply) (us : List ℕ) → Row d c r us → (k : ℕ) → numberOf (r .verdict) ≡ some k → (1 ≤ k) × (k ≤ 17)
+  row-number r us (Row.inDossier h s) k e = let n = form-number s in of-number e (n .0) (omega (arith, n .1))
+  row-number r us (Row.inCertificate h g s) k e = let n = form-number s in of-number e (n .0) (omega (arith, n .1))
+  row-number r us (Row.opaque D W b w) k e = absurd (Option·none-ne-some k e)
+  row-number r us (Row.detectable D ls b w) k e = absurd (Option·none-ne-some k e)
+  row-number r us (Row.probe D W j x b w h) k e = of-number e (omega arith) (omega arith)
+  row-number r us (Row.secret D W b w) k e = of-number e (omega arith) (omega arith)
+  row-number r us (Row.line D ls j l b w h) k e = of-number e (omega arith) (omega arith)
+  row-number r us (Row.last D ls l b w h) k e = of-number e (omega arith) (omega arith)
+
+-- ---- the answers entry
+
+module _ (d t : List ℕ) where
+  abbrev Answers : Answered → List ℕ → List ℕ → Type 0
+  Answers r us u = (r ≡ answersOf d t) × (us ≡ partShown d r) × (u ≡ tableAfter d t)
+
+  sound-read : (D : papers.Dossier) → d ≡ codeDossier D → DossierForm D → dossier d ≡ got D (length (codeDossier D))
+  sound-read D e f = ap dossier e ∙ dossierAccepted D f
+
+  answers-give : (r : Answered) (us u : List ℕ) → AnswersRow d t r us u → Answers r us u
+  unfolding answersOf tableAfter countOf tableOf choose
+  answers-give r us u (AnswersRow.form h s) = let k = answers-refused d t h in (k .0, form-shown s, k .1)
+  answers-give r us u (AnswersRow.short D e f l) =
+      let h = sound-read D e f in
+      let q = lt-leb _ _ l in
+      (sym (ap (λ (x : Out papers.Dossier). countOf x t) h ∙ (rw q refl)), sym (fits d 0 0 (omega arith)), sym (ap (λ (x : Out papers.Dossier). tableOf x t) h ∙ (rw q refl)))
+  answers-give r us u (AnswersRow.count D e f l) =
+      let h = sound-read D e f in
+      let q = le-leb _ _ l in
+      (sym (ap (λ (x : Out papers.Dossier). countOf x t) h ∙ (rw q refl)), sym (fits d 0 0 (omega arith)), sym (ap (λ (x : Out papers.Dossier). tableOf x t) h ∙ (rw q refl)))
+
+  abbrev Answering : Type 0
+  Answering = (r : Answered) × ((us : List ℕ) × ((u : List ℕ) × AnswersRow d t r us u))
+
+  by-room : (D : papers.Dossier) → d ≡ codeDossier D → DossierForm D → (b : Bool) → leb (length (D .probes)) (length t) ≡ b → Answering
+  by-room D e f true q = (_, (_, (_, AnswersRow.count D e f (leb-true _ _ q))))
+  by-room D e f false q = (_, (_, (_, AnswersRow.short D e f (leb-false _ _ q))))
+
+  by-form : (out : Out papers.Dossier) → dossier d ≡ out → Answering
+  by-form (got D q) e = let s = dossierSound d D q e in by-room D (s .0) (s .1) (leb (length (D .probes)) (length t)) refl
+  by-form (bad e p w) g = let (us, s) = dossierShows d e p w g in (_, (us, (_, AnswersRow.form g s)))
+
+  answers-row : AnswersRow d t (answersOf d t) (partShown d (answersOf d t)) (tableAfter d t)
+  answers-row =
+      let (r, (us, (u, s))) = by-form (dossier d) refl in
+      let g = answers-give r us u s in
+      subst (λ (v : List ℕ). AnswersRow d t (answersOf d t) (partShown d (answersOf d t)) v) (g .2) (subst₂ (λ (x : Answered) (y : List ℕ). AnswersRow d t x y u) (g .0) (g .1 ∙ ap (partShown d) (g .0)) s)
+
+  answers-number : (r : Answered) (us u : List ℕ) → AnswersRow d t r us u → (k p w : ℕ) → r ≡ Refused k p w → (1 ≤ k) × (k ≤ 18)
+  answers-number r us u (AnswersRow.form {e = e} h s) k p w q =
+      let n = form-number s in
+      let z : e ≡ k = cc in
+      (omega (arith, n .0), omega (arith, n .1))
+  answers-number r us u (AnswersRow.short D e f l) k p w q = let z : _≡_ {A = ℕ} 18 k = cc in (omega arith, omega arith)
+  answers-number r us u (AnswersRow.count D e f l) k p w q = absurd (let z : _≡_ {A = ℕ} 0 1 = cc in omega arith)
 
 pub demand1 : Demand1
-demand1 d c = (applies d c, only d c)
+demand1 =
+    record {
+      row = row;
+      only = row-gives;
+      number = λ d c. row-number d c (judgeOf d c) _ (row d c);
+      answersRow = answers-row;
+      answersOnly = answers-give;
+      answersNumber = λ d t. answers-number d t (answersOf d t) _ _ (answers-row d t);
+    }

@@ -1,10 +1,12 @@
--- The customer's demands 2 and 3, over words. proofs/Demands.antt has each under the same name in small letters.
+-- The customer's demands 2 and 3, over words (demand 1: Table.antt). proofs/Demands.antt has each under the same name in small letters.
 use mathlib.Core.Path.{_≡_}
 use mathlib.Core.List.{List}
 use mathlib.Core.Logic.{_↔_}
-use Prim.Native.Nat.{ℕ}
+use mathlib.Core.Option.{some}
+use Prim.Native.Nat.{ℕ, _≤_}
 use lib.ListN.{length}
-use Rattle.meaning.specs.Papers.{Dossier, Certificate}
+use Rattle.meaning.specs.Tests.{at}
+use Rattle.meaning.specs.Papers.{Entry, Dossier, policy, Yes, Certificate}
 use Rattle.meaning.specs.Looks.{Detectable}
 use Rattle.meaning.specs.Verdict as meant
 use Rattle.meaning.specs.Demands.{When}
@@ -14,6 +16,7 @@ use Rattle.promise.specs.Form.{DossierForm, CertificateForm}
 use Rattle.reply.specs.Answer.{accepted}
 use Rattle.reply.specs.declared.Verdict.the-variants as verdict
 use Rattle.judging.specs.Judge.{judgeOf}
+use Rattle.judging.specs.Answers.{wordTo}
 
 -- the judge's two acceptances of words
 abbrev pub SaysOpaque : List ℕ → List ℕ → Type 0
@@ -42,3 +45,7 @@ pub record Demand3 : Type 0 where
   pub noWitness : (D E : Dossier) → Extends D E → DossierForm D → DossierForm E → (c w : List ℕ) → SaysDetectable (codeDossier D) c → SaysOpaque (codeDossier E) w → ⊥
   -- "Where no mark differs, a witness accepted for E is accepted for D."
   pub witnessStays : (D E : Dossier) → Extends D E → DossierForm D → DossierForm E → E .clauses ≡ D .clauses → (w : List ℕ) → SaysOpaque (codeDossier E) w → SaysOpaque (codeDossier D) w
+
+-- "writes every probe's answer, 0 or 1": 1 exactly when the answer is yes, by the published meaning
+abbrev pub AnswersMeant : Type 0
+AnswersMeant = (D : Dossier) (j : ℕ) (e : Entry) → at (D .probes) j ≡ some e → (wordTo D j ≤ 1) × ((wordTo D j ≡ 1) ↔ Yes D (policy D) e)

@@ -2,6 +2,5 @@ pub mod Judge
 pub mod Answers
 pub mod Cases
 pub mod Demands
-pub mod Shows
 pub mod Slack
 pub mod Table

@@ -1,36 +1,88 @@
--- Demand 1: every two lists of words get one reply, and it is a row of 01's table.
-use Prim.Native.Nat.{ℕ}
+-- Demand 1: every two lists of words get one reply, and it is a row of 01's table ("What the reply says").
+use Prim.Native.Nat.{ℕ, _+_, _-_, _<_, _≤_}
 use mathlib.Core.Path.{_≡_}
-use mathlib.Core.List.{List}
-use lib.ListN.{length}
+use mathlib.Core.List.{List, []}
+use mathlib.Core.Option.{some}
+use lib.ListN.{length, take}
 use Rattle.words.specs.Out.{got, bad}
+use Rattle.words.specs.Code.{codeAll}
+use Rattle.meaning.specs.Tests.{at}
+use Rattle.meaning.specs.Policy.{Policy}
 use Rattle.meaning.specs.Papers as papers
-use Rattle.meaning.specs.Verdict.{Outcome}
+use Rattle.meaning.specs.Papers.{Entry, Line, witness, proof}
+use Rattle.meaning.specs.Verdict as meant
 use Rattle.meaning.specs.Demands.{When}
-use Rattle.promise.specs.Code.{codeDossier, codeCertificate}
+use Rattle.promise.specs.Code.{codeEntry, codeLine, codeDossier, codeCertificate}
 use Rattle.promise.specs.Form.{DossierForm}
-use Rattle.promise.specs.Layout.{layoutOf, proposalOf}
+use Rattle.promise.specs.Layout.{probesAt, secretAt}
+use Rattle.promise.specs.Place.{filled}
+use Rattle.promise.specs.Table.{DossierRow, CertificateRow}
 use Rattle.dossier.specs.Read.{dossier}
-use Rattle.dossier.specs.Promise as dossiers
 use Rattle.certificate.specs.Read.{certificate}
-use Rattle.certificate.specs.Promise as certificates
-use Rattle.reply.specs.Answer.{refused}
+use Rattle.reply.specs.Answer.{numberOf, accepted, refused}
+use Rattle.reply.specs.Part.{partOf}
+use Rattle.reply.specs.Shown.{shownOf}
 use Rattle.reply.specs.declared.Paper.the-variants.{Dossier, Certificate}
 use Rattle.reply.specs.declared.Reply.{Reply}
-use Rattle.verdict.specs.Told.{replyAt, sizeOf}
+use Rattle.reply.specs.declared.Verdict.the-variants.{Opaque, Detectable}
 use Rattle.judging.specs.Judge.{judgeOf}
+use Rattle.judging.specs.Answers.{wordTo, answersOf, tableAfter}
 use Rattle.judging.specs.Demands.{SoundFor}
+use Rattle.judging.specs.declared.Answered.{Answered}
+use Rattle.judging.specs.declared.Answered.the-variants.{Count, Refused}
 
--- The rows, for the words d and c. (18 is the answers entry's; 19 is never given.)
-pub data Row (d c : List ℕ) : Reply → Type 0 where
-  -- 1 to 9 in the dossier: the first fault from left to right, and what it shows
-  inDossier : {e p w : ℕ} → dossier d ≡ bad e p w → dossiers.Shows d e p w → Row d c (refused e Dossier p w)
-  -- 1 to 6 and 9 to 13 in the certificate, with a sound dossier
-  inCertificate : {D : papers.Dossier} {q e p w : ℕ} → dossier d ≡ got D q → certificate (length (D .labels)) (length (D .creds)) c ≡ bad e p w → certificates.Shows c e p w → Row d c (refused e Certificate p w)
-  -- 14 to 17 and the two acceptances, with both sound: when `When` says (`replyAt` has the numbers; `MeaningShows` what they show)
-  inMeaning : (D : papers.Dossier) (C : papers.Certificate) (o : Outcome) → d ≡ codeDossier D → c ≡ codeCertificate C → DossierForm D → SoundFor D C → When D C o
-      → Row d c (replyAt d (layoutOf D) c (sizeOf (proposalOf C)) o)
+-- the words d and c are those of two papers that are sound in form
+pub record Both (d c : List ℕ) (D : papers.Dossier) (C : papers.Certificate) : Type 0 where
+  pub dossierWords : d ≡ codeDossier D
+  pub certificateWords : c ≡ codeCertificate C
+  pub form : DossierForm D
+  pub sound : SoundFor D C
 
--- the judge's reply is a row that applies, and no other reply is
-abbrev pub Demand1 : Type 0
-Demand1 = (d c : List ℕ) → Row d c (judgeOf d c) × ((r : Reply) → Row d c r → r ≡ judgeOf d c)
+-- The rows, for the words d and c: the reply, and the words that are shown. (18 is the answers entry's.)
+-- "Order: the dossier's form from left to right; 10; the certificate's form from left to right; then meaning."
+pub data Row (d c : List ℕ) : Reply → List ℕ → Type 0 where
+  -- 1 to 9 in the dossier: number e at place p is what reading it from left to right comes to; `DossierRow` has each number's row
+  inDossier : {e p w : ℕ} {us : List ℕ} → dossier d ≡ bad e p w → DossierRow d e p w us → Row d c (refused e Dossier p w) us
+  -- 1 to 6 and 9 to 13 in the certificate, with a sound dossier; `CertificateRow` has each number's row
+  inCertificate : {D : papers.Dossier} {q e p w : ℕ} {us : List ℕ} → dossier d ≡ got D q → certificate (length (D .labels)) (length (D .creds)) c ≡ bad e p w
+      → CertificateRow (length (D .labels)) (length (D .creds)) c e p w us → Row d c (refused e Certificate p w) us
+  -- "For an acceptance: certificate, place 0, empty part."
+  opaque : (D : papers.Dossier) (W : Policy) → Both d c D (witness W) → When D (witness W) meant.opaque → Row d c (accepted Opaque) []
+  detectable : (D : papers.Dossier) (ls : List Line) → Both d c D (proof ls) → When D (proof ls) meant.detectable → Row d c (accepted Detectable) []
+  -- 14: "witness: a probe's answer differs": "that probe in the dossier", probe k, after the probes before it
+  probe : (D : papers.Dossier) (W : Policy) (k : ℕ) (e : Entry) → Both d c D (witness W) → When D (witness W) (meant.probeDiffers k) → at (D .probes) k ≡ some e
+      → Row d c (refused 14 Dossier (probesAt D + 1 + length (codeAll codeEntry (take k (D .probes)))) (length (codeEntry e))) (codeEntry e)
+  -- 15: "witness: the secret is true": "the secret in the dossier"
+  secret : (D : papers.Dossier) (W : Policy) → Both d c D (witness W) → When D (witness W) meant.secretTrue
+      → Row d c (refused 15 Dossier (secretAt D + 1) (length (codeEntry (D .secret)))) (codeEntry (D .secret))
+  -- 16: "a line doesn't follow": "that line", line k, after the lines before it
+  line : (D : papers.Dossier) (ls : List Line) (k : ℕ) (l : Line) → Both d c D (proof ls) → When D (proof ls) (meant.lineFails k) → at ls k ≡ some l
+      → Row d c (refused 16 Certificate (2 + length (codeAll codeLine (take k ls))) (length (codeLine l))) (codeLine l)
+  -- 17: "the last line isn't empty": "that line"
+  last : (D : papers.Dossier) (ls : List Line) (l : Line) → Both d c D (proof ls) → When D (proof ls) meant.lastNotEmpty → at ls (length ls - 1) ≡ some l
+      → Row d c (refused 17 Certificate (2 + length (codeAll codeLine (take (length ls - 1) ls))) (length (codeLine l))) (codeLine l)
+
+-- The answers entry's rows, for the dossier's words d and the table t: the reply, the words of the dossier that are shown, and what the table then holds.
+pub data AnswersRow (d t : List ℕ) : Answered → List ℕ → List ℕ → Type 0 where
+  -- 1 to 9
+  form : {e p w : ℕ} {us : List ℕ} → dossier d ≡ bad e p w → DossierRow d e p w us → AnswersRow d t (Refused e p w) us t
+  -- 18: "answers table shorter than the probe count": "empty part at the dossier's start"
+  short : (D : papers.Dossier) → d ≡ codeDossier D → DossierForm D → length t < length (D .probes) → AnswersRow d t (Refused 18 0 0) [] t
+  -- "replies with the count; words beyond stay"
+  count : (D : papers.Dossier) → d ≡ codeDossier D → DossierForm D → length (D .probes) ≤ length t → AnswersRow d t (Count (length (D .probes))) [] (filled (wordTo D) (length (D .probes)) t)
+
+-- the part of the dossier that the answers entry's reply shows
+abbrev pub partShown : List ℕ → Answered → List ℕ
+partShown d (Count k) = partOf d 0 0
+partShown d (Refused e p w) = partOf d p w
+
+pub record Demand1 : Type 0 where
+  -- the judge's reply is that of a row, and what is shown for it is what the row names; no other row applies
+  pub row : (d c : List ℕ) → Row d c (judgeOf d c) (shownOf d c (judgeOf d c))
+  pub only : (d c : List ℕ) (r : Reply) (us : List ℕ) → Row d c r us → (r ≡ judgeOf d c) × (us ≡ shownOf d c r)
+  -- its number, if it has one, is in the table
+  pub number : (d c : List ℕ) (k : ℕ) → numberOf (judgeOf d c .verdict) ≡ some k → (1 ≤ k) × (k ≤ 17)
+  -- and so for the answers entry: 19 is never given
+  pub answersRow : (d t : List ℕ) → AnswersRow d t (answersOf d t) (partShown d (answersOf d t)) (tableAfter d t)
+  pub answersOnly : (d t : List ℕ) (r : Answered) (us u : List ℕ) → AnswersRow d t r us u → (r ≡ answersOf d t) × (us ≡ partShown d r) × (u ≡ tableAfter d t)
+  pub answersNumber : (d t : List ℕ) (k p w : ℕ) → answersOf d t ≡ Refused k p w → (1 ≤ k) × (k ≤ 18)

@@ -4,3 +4,4 @@ pub mod Seen
 pub mod SeenEntry
 pub mod SeenLine
 pub mod Decoded
+pub mod Table

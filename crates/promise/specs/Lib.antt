@@ -7,3 +7,4 @@ pub mod Line
 pub mod Thing
 pub mod Layout
 pub mod Promise
+pub mod Table

@@ -1,14 +1,14 @@
 -- What a reader promises, and how the promise of a reader follows from those of its parts.
 use Prim.Native.Nat.{ℕ, zero, suc, _+_, _<_, _≤_}
-use mathlib.Core.Path.{_≡_, refl, sym, ap, _∙_, subst, subst₂}
+use mathlib.Core.Path.{_≡_, refl, sym, ap, ap₂, _∙_, subst, subst₂}
 use mathlib.Core.Bool.{Bool, true, false}
 use mathlib.Core.List.{List, [], _∷_, _++_, append-assoc, List·Memᴰ, List·Memᴰ·head, List·Memᴰ·tail, List·Memᴰ·not-nil, List·Memᴰ·cases-cons}
 use mathlib.Core.Logic.{⊎-elim, _↔_}
 use native.Mathlib.Omega.{arith}
 use native.Mathlib.Numerals.{add-one}
 use lib.Dec.{ltb, leb}
-use lib.ListN.{length, getD, drop, length-append, length-drop}
-use lib.Seq.{drop-cons, drop-drop, drop-append-seam}
+use lib.ListN.{length, getD, take, drop, length-append, length-drop}
+use lib.Seq.{drop-cons, drop-drop, take-append-seam, drop-append-seam}
 use borrow.Author.Tests.{lt-ltb, le-leb, ltb-true, leb-true}
 use Rattle.words.specs.Out.{Out, got, bad, then, made, need, present, word}
 use Rattle.words.specs.Read.{ranged, inRange, rising, listed, times, section}
@@ -30,6 +30,12 @@ spans-word ws at h = record { words = rw (add-one at) (drop-cons ws at 0 h); nex
 pub spans-join : {ws : List ℕ} {at q p : ℕ} {a b : List ℕ} → Spans ws at a q → Spans ws q b p → Spans ws at (a ++ b) p
 spans-join {ws} {at} {q} {p} {a} {b} s t =
     record { words = s .words ∙ ap (λ (l : List ℕ). a ++ l) (t .words) ∙ sym (append-assoc a b (drop p ws)); next = omega (arith, s .next, t .next, length-append a b) }
+
+-- from the start
+pub spans-whole : {ws : List ℕ} {p : ℕ} (code : List ℕ) → Spans ws 0 code p → take p ws ≡ code
+spans-whole {ws} {p} code s =
+    let z : p ≡ length code = omega (arith, s .next) in
+    ap₂ (λ (k : ℕ) (l : List ℕ). take k l) z (s .words) ∙ take-append-seam code (drop p ws)
 
 -- a word lies at `at`, and the rest after it
 pub record Lies (ws : List ℕ) (at x : ℕ) (rest : List ℕ) : Type 0 where

@@ -1,32 +1,46 @@
--- What a refusal shows: 1 the empty part at the end of the words, any other number one of the words.
+-- What a refusal shows: 1 the empty part at the end of the words, any other number one of the words, of which something is then known.
 use Prim.Native.Nat.{ℕ, zero, suc, _+_, _<_, _≤_}
-use mathlib.Core.Path.{_≡_, refl, sym, _∙_, subst}
+use mathlib.Core.Path.{_≡_, refl, sym, ap, _∙_, subst, subst₂}
 use mathlib.Core.Bool.{Bool, true, false}
 use mathlib.Core.List.{List}
 use mathlib.Core.Logic.{_⊎_, inl, inr}
 use native.Mathlib.Omega.{arith}
 use lib.Dec.{ltb, leb}
-use lib.ListN.{length, drop, length-drop}
-use borrow.Author.Tests.{ltb-true}
+use lib.ListN.{length, getD, drop, length-drop}
+use borrow.Author.Tests.{ltb-true, ltb-false, leb-false}
 use Rattle.words.specs.Out.{Out, got, bad, then, made, need, present, word, moved, after}
 use Rattle.words.specs.Read.{ranged, inRange, rising, listed, times, section}
 use Rattle.words.specs.declared.Range.{Range}
 use Rattle.words.specs.declared.Range.the-variants.{Any, Below}
-use Rattle.words.proofs.Promise.{OK, fine, none, ok-word, In, inGot, inBad}
+use Rattle.words.proofs.Promise.{OK, fine, none, ok-word, lies, In, inGot, inBad}
 
--- what was read of l words, or why not; E has the numbers that show a word
-pub data Told (E : ℕ → Type 0) (l : ℕ) {A : Type 0} : Out A → Type 0 where
+-- what was read of l words, or why not; E has what is known of the number and the place of a refusal that shows a word
+pub data Told (E : ℕ → ℕ → Type 0) (l : ℕ) {A : Type 0} : Out A → Type 0 where
   read : {v : A} {p : ℕ} → p ≤ l → Told E l (got v p)
   atEnd : {p : ℕ} → p ≡ l → Told E l (bad 1 p 0)
-  atWord : {e p : ℕ} → E e → p < l → Told E l (bad e p 1)
+  atWord : {e p : ℕ} → E e p → p < l → Told E l (bad e p 1)
 
--- the words of a list may be refused with these numbers
-abbrev pub Ranged : (ℕ → Type 0) → Range → Type 0
-Ranged E Any = Unit {0}
-Ranged E (Below hi e) = E e
+-- more is known of a refusal than E says
+pub told-more : {E F : ℕ → ℕ → Type 0} {A : Type 0} {l : ℕ} {o : Out A} → Told E l o → ((e p : ℕ) → o ≡ bad e p 1 → E e p → F e p) → Told F l o
+told-more (read h) k = read h
+told-more (atEnd h) k = atEnd h
+told-more (atWord {e = e} {p = p} f h) k = atWord (k e p refl f) h
 
-module _ (E : ℕ → Type 0) where
-  pub told-bad : {A : Type 0} {l e p w : ℕ} {o : Out A} → Told E l o → o ≡ bad e p w → ((e ≡ 1) × (p ≡ l) × (w ≡ 0)) ⊎ (E e × (p < l) × (w ≡ 1))
+-- the words of a list that are not in its range may be refused
+abbrev pub Ranged : (ℕ → ℕ → Type 0) → List ℕ → Range → Type 0
+Ranged E ws Any = Unit {0}
+Ranged E ws (Below hi e) = (p : ℕ) → hi ≤ getD ws p 0 → E e p
+
+-- and so may one that is not above the word before it
+abbrev pub Ordered : (ℕ → ℕ → Type 0) → List ℕ → Type 0
+Ordered E ws = (p q : ℕ) → p ≡ q + 1 → getD ws p 0 ≤ getD ws q 0 → E 4 p
+
+-- the word at `at`, where it is outside these limits
+abbrev pub Outside : List ℕ → ℕ → ℕ → ℕ → Type 0
+Outside ws lo hi at = lo ≤ getD ws at 0 → getD ws at 0 < hi → ⊥
+
+module _ (E : ℕ → ℕ → Type 0) where
+  pub told-bad : {A : Type 0} {l e p w : ℕ} {o : Out A} → Told E l o → o ≡ bad e p w → ((e ≡ 1) × (p ≡ l) × (w ≡ 0)) ⊎ (E e p × (p < l) × (w ≡ 1))
   told-bad (read h) q = absurd (let z : _≡_ {A = ℕ} 0 1 = cc in omega arith)
   told-bad {e = e} {p = p} {w = w} (atEnd {p = p'} h) q =
       let b : p' ≡ p = cc in
@@ -34,7 +48,7 @@ module _ (E : ℕ → Type 0) where
   told-bad {l = l} {e = e} {p = p} {w = w} (atWord {e = e'} {p = p'} f h) q =
       let a : e' ≡ e = cc in
       let b : p' ≡ p = cc in
-      inr (subst E a f, subst (λ (i : ℕ). i < l) b h, cc)
+      inr (subst₂ E a b f, subst (λ (i : ℕ). i < l) b h, cc)
 
   -- every place lies in the paper
   pub told-inside : {A : Type 0} {l : ℕ} {o : Out A} → Told E l o → In l o
@@ -58,59 +72,72 @@ module _ (E : ℕ → Type 0) where
   told-made f (atEnd h) = atEnd h
   told-made f (atWord g h) = atWord g h
 
-  pub told-need : {A : Type 0} {l : ℕ} (b : Bool) {e at : ℕ} {o : Out A} → E e → (b ≡ false → at < l) → (b ≡ true → Told E l o) → Told E l (need b e at o)
+  pub told-need : {A : Type 0} {l : ℕ} (b : Bool) {e at : ℕ} {o : Out A} → (b ≡ false → E e at) → (b ≡ false → at < l) → (b ≡ true → Told E l o) → Told E l (need b e at o)
   told-need true f h t = t refl
-  told-need false f h t = atWord f (h refl)
+  told-need false f h t = atWord (f refl) (h refl)
 
   pub told-present : {A : Type 0} (b : Bool) (ws : List ℕ) {o : Out A} → (b ≡ true → Told E (length ws) o) → Told E (length ws) (present b ws o)
   told-present true ws t = t refl
   told-present false ws t = atEnd refl
 
-  pub told-word : (ws : List ℕ) (at : ℕ) → Told E (length ws) (word ws at)
-  told-word ws at = told-present (ltb at (length ws)) ws (λ b. let i : at + 1 ≤ length ws = omega (arith, ltb-true at (length ws) b) in read i)
-
   module _ (ws : List ℕ) where
-    pub told-ranged : {e : ℕ} → E e → (lo hi at : ℕ) → Told E (length ws) (ranged lo hi e ws at)
+    pub told-word : (at : ℕ) → Told E (length ws) (word ws at)
+    told-word at = told-present (ltb at (length ws)) ws (λ b. let i : at + 1 ≤ length ws = omega (arith, ltb-true at (length ws) b) in read i)
+
+    pub told-ranged : (lo hi at : ℕ) {e : ℕ} → (Outside ws lo hi at → E e at) → Told E (length ws) (ranged lo hi e ws at)
     unfolding ranged
-    told-ranged f lo hi at =
-        told-then-ok _ (ok-word ws at) (told-word ws at) (λ x p s i.
+    told-ranged lo hi at f =
+        told-then-ok _ (ok-word ws at) (told-word at) (λ x p s i.
         let h : at < length ws = omega (arith, s .next) in
-        told-need (leb lo x) f (λ _. h) (λ _. told-need (ltb x hi) f (λ _. h) (λ _. read i)))
+        let v : getD ws at 0 ≡ x = lies ws at (s .words) .this in
+        told-need (leb lo x) (λ b. f (λ y z. omega (arith, v, leb-false lo x b))) (λ _. h) (λ _.
+        told-need (ltb x hi) (λ b. f (λ y z. omega (arith, v, ltb-false x hi b))) (λ _. h) (λ _. read i)))
 
-    told-in : {A : Type 0} (range : Range) → Ranged E range → (x at : ℕ) {o : Out A} → at < length ws → Told E (length ws) o → Told E (length ws) (inRange range x at o)
-    told-in Any g x at h t = t
-    told-in (Below hi e) g x at h t = told-need (ltb x hi) g (λ _. h) (λ _. t)
+    told-in : {A : Type 0} (range : Range) → Ranged E ws range → (x at : ℕ) {o : Out A} → getD ws at 0 ≡ x → at < length ws → Told E (length ws) o → Told E (length ws) (inRange range x at o)
+    told-in Any g x at v h t = t
+    told-in (Below hi e) g x at v h t = told-need (ltb x hi) (λ b. g at (omega (arith, v, ltb-false x hi b))) (λ _. h) (λ _. t)
 
-    module _ (four : E 4) (range : Range) (g : Ranged E range) where
-      told-rising : (low k at : ℕ) → at ≤ length ws → Told E (length ws) (rising range low k ws at)
+    -- the least that the next word may be: any, or more than the word before it
+    abbrev After : ℕ → ℕ → Type 0
+    After low at = (low ≡ 0) ⊎ ((q : ℕ) × (at ≡ q + 1) × (low ≡ getD ws q 0 + 1))
+
+    module _ (four : Ordered E ws) (range : Range) (g : Ranged E ws range) where
+      order : {low at x : ℕ} → After low at → getD ws at 0 ≡ x → leb low x ≡ false → E 4 at
+      order {low} {at} {x} (inl z) v b = absurd (omega (arith, leb-false low x b, z))
+      order {low} {at} {x} (inr (q, a, z)) v b = four at q a (omega (arith, leb-false low x b, z, v))
+
+      told-rising : (low k at : ℕ) → After low at → at ≤ length ws → Told E (length ws) (rising range low k ws at)
       unfolding rising
-      told-rising low zero at i = read i
-      told-rising low (suc k) at i =
-          told-then-ok _ (ok-word ws at) (told-word ws at) (λ x p s j.
+      told-rising low zero at a i = read i
+      told-rising low (suc k) at a i =
+          told-then-ok _ (ok-word ws at) (told-word at) (λ x p s j.
           let h : at < length ws = omega (arith, s .next) in
-          told-in range g x at h (told-need (leb low x) four (λ _. h) (λ _. told-made _ (told-rising (x + 1) k p j))))
+          let v : getD ws at 0 ≡ x = lies ws at (s .words) .this in
+          told-in range g x at v h
+          (told-need (leb low x) (order a v) (λ _. h) (λ _.
+          told-made _ (told-rising (x + 1) k p (inr (at, s .next, ap (λ (y : ℕ). y + 1) (sym v))) j))))
 
-      pub told-listed : E 2 → (lo hi at : ℕ) → Told E (length ws) (listed lo hi range ws at)
+      pub told-listed : (lo hi at : ℕ) → (Outside ws lo hi at → E 2 at) → Told E (length ws) (listed lo hi range ws at)
       unfolding listed
-      told-listed two lo hi at = told-then _ (told-ranged two lo hi at) (λ k p i. told-rising 0 k p i)
+      told-listed lo hi at two = told-then _ (told-ranged lo hi at two) (λ k p i. told-rising 0 k p (inl refl) i)
 
-  -- a thing, so many of them, and a section of them
-  module _ {A : Type 0} {r : List ℕ → ℕ → Out A} (told : (ws : List ℕ) (at : ℕ) → Told E (length ws) (r ws at)) where
-    pub told-times : (k : ℕ) (ws : List ℕ) (at : ℕ) → at ≤ length ws → Told E (length ws) (times k r ws at)
-    unfolding times
-    told-times zero ws at i = read i
-    told-times (suc k) ws at i = told-then _ (told ws at) (λ x p j. told-made _ (told-times k ws p j))
+    -- so many things, and a section of them
+    module _ {A : Type 0} (r : List ℕ → ℕ → Out A) (told : (at : ℕ) → Told E (length ws) (r ws at)) where
+      pub told-times : (k at : ℕ) → at ≤ length ws → Told E (length ws) (times k r ws at)
+      unfolding times
+      told-times zero at i = read i
+      told-times (suc k) at i = told-then _ (told at) (λ x p j. told-made _ (told-times k p j))
 
-    pub told-section : E 2 → (lo hi : ℕ) (ws : List ℕ) (at : ℕ) → Told E (length ws) (section lo hi r ws at)
-    unfolding section
-    told-section two lo hi ws at = told-then _ (told-ranged ws two lo hi at) (λ k p i. told-times k ws p i)
+      pub told-section : (lo hi at : ℕ) → (Outside ws lo hi at → E 2 at) → Told E (length ws) (section lo hi r ws at)
+      unfolding section
+      told-section lo hi at two = told-then _ (told-ranged lo hi at two) (λ k p i. told-times k p i)
 
-  -- read as the part from p on
-  pub told-after : {A : Type 0} {r : List ℕ → ℕ → Out A} → ((ws : List ℕ) (at : ℕ) → Told E (length ws) (r ws at)) → (ws : List ℕ) (p : ℕ) → p ≤ length ws → Told E (length ws) (after r ws p)
-  unfolding after moved
-  told-after {A} {r} told ws p h = go (told (drop p ws) 0)
-    where
-      go : {o : Out A} → Told E (length (drop p ws)) o → Told E (length ws) (moved p o)
-      go (read {p = q} i) = let j : p + q ≤ length ws = omega (arith, length-drop p ws) in read j
-      go (atEnd {p = q} i) = let j : p + q ≡ length ws = omega (arith, i, length-drop p ws) in atEnd j
-      go (atWord {p = q} f i) = let j : p + q < length ws = omega (arith, length-drop p ws) in atWord f j
+-- read as the part from p on: what is known of a place in the part is known of it in the whole
+pub told-after : {E F : ℕ → ℕ → Type 0} {A : Type 0} (r : List ℕ → ℕ → Out A) (ws : List ℕ) (p : ℕ) → p ≤ length ws → ((e q : ℕ) → E e q → F e (p + q)) → Told E (length (drop p ws)) (r (drop p ws) 0) → Told F (length ws) (after r ws p)
+unfolding after moved
+told-after {E} {F} {A} r ws p h move t = go t
+  where
+    go : {o : Out A} → Told E (length (drop p ws)) o → Told F (length ws) (moved p o)
+    go (read {p = q} i) = let j : p + q ≤ length ws = omega (arith, length-drop p ws) in read j
+    go (atEnd {p = q} i) = let j : p + q ≡ length ws = omega (arith, i, length-drop p ws) in atEnd j
+    go (atWord {e = e} {p = q} f i) = let j : p + q < length ws = omega (arith, length-drop p ws) in atWord (move e q f) j
