@@ -12,10 +12,10 @@ use Rattle.meaning.specs.Rules.{denied, fires, follows, earlier}
 use Rattle.meaning.specs.Verdict.{ProofAccepted}
 use Rattle.meaning.proofs.Tests.{and-both, and-of, named-at, named-of, at-mem}
 use Rattle.completeness.specs.Needed.{number, enough, Needed, NeededExactly}
-use Rattle.completeness.specs.Example.{from, t1}
+use Rattle.meaning.proofs.Example.{compute, clauseOf, entryOf, withProbes, t1}
 use Rattle.completeness.proofs.Tree.{gives-at}
 use Rattle.completeness.proofs.Complete.{sevenEnough}
-use Rattle.completeness.proofs.Example.{compute, none-of, also, t1-wellFormed, t1-detectable}
+use Rattle.completeness.proofs.Example.{none-of, also, t1-wellFormed, t1-detectable}
 use Rattle.completeness.proofs.Sample.{sampleWith, probed, three, sample, unfold-sample, sample-detectable, sample-wellFormed, two, sample-probe, sample-secret, sample-without}
 use Rattle.completeness.proofs.Uses.{Uses, uses, line-follows, empty-line, Carried, uses-by}
 use Rattle.completeness.proofs.Values.{uses-cut}
@@ -84,7 +84,7 @@ t1-fact = record { labels = t1 .labels; clauses = t1 .clauses; creds = fact 1 �
 
 -- rule 5 asks less of a credential without body
 fact-fires : (b : List Line) (ls : List Literal) (c j : ℕ) → follows t1 b ls (Rule.credential c j) ≡ true → follows t1-fact b ls (Rule.credential c j) ≡ true
-unfolding follows t1 t1-fact fires all
+unfolding follows t1 withProbes clauseOf entryOf t1-fact fires all
 fact-fires b ls c j h =
     let (e, ee, g) = named-at _ _ h in
     let (l, el, t) = named-at _ _ g in
@@ -94,7 +94,7 @@ fact-fires b ls c j h =
     let (q, ef) = instead c ee in
     named-of _ ef (named-of _ el (and-of inCreds (and-of (and-of plus (subst (λ (y : Clause). l .said .atom is y .head ≡ true) q on)) refl)))
   where
-    instead : (c : ℕ) {e : Clause} → at (from 1 0 ∷ []) c ≡ some e → (e ≡ from 1 0) × (at (fact 1 ∷ []) c ≡ some (fact 1))
+    instead : (c : ℕ) {e : Clause} → at (clauseOf 1 (0 ∷ []) ∷ []) c ≡ some e → (e ≡ clauseOf 1 (0 ∷ [])) × (at (fact 1 ∷ []) c ≡ some (fact 1))
     instead zero h = unfold at in (cc, refl)
     instead (suc c) h = unfold at in absurd (true≢false (cc))
 

@@ -15,8 +15,8 @@ use Rattle.meaning.specs.Extends.{WellNamed}
 use Rattle.meaning.proofs.Tests.{and-both, named-at, at-mem, mem-at}
 use Rattle.meaning.proofs.Demands.{demand3}
 use Rattle.completeness.specs.Form.{Pairwise, Within, AtomsBelow, WellFormed}
-use Rattle.completeness.specs.Example.{entry}
-use Rattle.completeness.proofs.Example.{compute, literal, line, none-of, also}
+use Rattle.meaning.proofs.Example.{compute, entryOf, literal, line}
+use Rattle.completeness.proofs.Example.{none-of, also}
 
 -- Fact 0, visible if seen; hidden facts 1, 2 and 3; a credential for 1, and the secret with it.
 unfoldable pub sampleWith : Bool → List ℕ → List Entry → Formula → Dossier
@@ -34,7 +34,7 @@ sampleWith seen body probes secret =
 
 -- 2 without the credential
 unfoldable pub probed : List Entry
-probed = entry [] 2 ∷ []
+probed = entryOf [] 2 ∷ []
 
 -- 2 and 0 and 1
 unfoldable pub three : Formula

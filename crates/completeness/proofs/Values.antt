@@ -15,7 +15,7 @@ use Rattle.meaning.proofs.Tests.{clash, not-true, not-opposite, and-both, and-f
 use Rattle.meaning.proofs.Sound.{sameStatement→≡}
 use Rattle.completeness.specs.Needed.{number}
 use Rattle.completeness.proofs.Tree.{gives-at}
-use Rattle.completeness.proofs.Example.{compute}
+use Rattle.meaning.proofs.Example.{compute}
 use Rattle.completeness.proofs.Sample.{sample, two, sample-probe, sample-secret, sample-clauses, sample-creds, sample-without}
 use Rattle.completeness.proofs.Uses.{Uses, uses, line-follows, empty-line}
 

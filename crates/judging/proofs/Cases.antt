@@ -4,13 +4,8 @@ use mathlib.Core.List.{List, [], _∷_, List·Memᴰ·head, List·Memᴰ·tail, 
 use Rattle.words.specs.Out as out
 use Rattle.words.specs.Read.{ranged, rising, listed, times, section}
 use Rattle.words.specs.Code.{codeAll}
-use Rattle.meaning.specs.Tests.{_∈_, _and_, _or_, agree, _is_, same, all, any, put, keep, mem, at, named, choose, lowest}
-use Rattle.meaning.specs.Policy.{round, after, holds}
-use Rattle.meaning.specs.Formula.{read, pick, chosen, joined, given, truth}
-use Rattle.meaning.specs.Papers.{policy, visible, answer}
-use Rattle.meaning.specs.Looks.{aim}
-use Rattle.meaning.specs.Rules.{sameStatement, supposed, not₃, and₃, or₃, value, _gives_, isIn, denied, fires, claims, omit, others, follows, earlier, lineFollows}
-use Rattle.meaning.specs.Verdict.{tried, probeAgrees, lastEmpty, decide, judge}
+use Rattle.meaning.specs.Tests.{_∈_}
+use Rattle.meaning.proofs.Example as meant
 use Rattle.promise.specs.Code.{codeFormula}
 use Rattle.promise.specs.Place.{place, rows, filled}
 use Rattle.promise.specs.Layout.{layoutOf, proposalOf}
@@ -24,8 +19,8 @@ use Rattle.judging.specs.Answers.{wordTo, countOf, tableOf, answersOf, t
 use Rattle.judging.specs.Cases.{Case, Holds, CasesHold}
 
 -- all that reading and judging compute through
-compute : Unit {0}
-unfolding out.moved out.after ranged rising listed times section codeAll _and_ _or_ agree _is_ same all any put keep mem at named choose lowest round after holds read pick chosen joined given truth policy visible answer aim sameStatement supposed not₃ and₃ or₃ value _gives_ isIn denied fires claims omit others follows earlier lineFollows tried probeAgrees lastEmpty decide judge codeFormula place rows filled layoutOf proposalOf dataCount ruleOf nextOf clause marked byKind operand formula entry secret ended sections dossier statement literal spoken literals line witnessFrom proofFrom proposal certificate showing replyAt judgeProposal judgeRead judgeOf wordTo countOf tableOf answersOf tableAfter Holds
+unfoldable pub compute : Unit {0}
+unfolding out.moved out.after ranged rising listed times section codeAll meant.compute codeFormula place rows filled layoutOf proposalOf dataCount ruleOf nextOf clause marked byKind operand formula entry secret ended sections dossier statement literal spoken literals line witnessFrom proofFrom proposal certificate showing replyAt judgeProposal judgeRead judgeOf wordTo countOf tableOf answersOf tableAfter Holds
 compute = tt
 
 -- what holds of the first row and of each other holds of each

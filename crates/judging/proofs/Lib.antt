@@ -3,5 +3,4 @@ pub mod Judged
 pub mod Cases
 pub mod Demands
 pub mod Shows
-pub mod Slack
 pub mod Table

@@ -11,14 +11,14 @@ use Rattle.meaning.specs.Looks.{aim}
 use Rattle.meaning.specs.Rules.{sameStatement, supposed, not₃, and₃, or₃, value, _gives_, isIn, denied, fires, claims, omit, others, follows, earlier, lineFollows}
 use Rattle.meaning.specs.Verdict.{opaque, detectable, tried, probeAgrees, lastEmpty, decide, judge}
 
-clauseOf : ℕ → List ℕ → Clause
+unfoldable pub clauseOf : ℕ → List ℕ → Clause
 clauseOf h b = record { head = h; body = b }
 
-entryOf : List ℕ → ℕ → Entry
+unfoldable pub entryOf : List ℕ → ℕ → Entry
 entryOf S a = record { creds = S; formula = atom a }
 
 -- Hidden fact 0; visible 2 from 1; credential 1 from 0; secret 0.
-withProbes : List Entry → Dossier
+unfoldable pub withProbes : List Entry → Dossier
 withProbes probes =
     record {
       labels = 10 ∷ 20 ∷ 30 ∷ [];
@@ -28,19 +28,19 @@ withProbes probes =
       secret = entryOf [] 0;
     }
 
-t1 : Dossier
+unfoldable pub t1 : Dossier
 t1 = withProbes (entryOf (0 ∷ []) 2 ∷ entryOf [] 2 ∷ [])
 
-t2 : Dossier
+unfoldable pub t2 : Dossier
 t2 = withProbes (entryOf (0 ∷ []) 2 ∷ [])
 
-literal : Bool → List ℕ → ℕ → Literal
+unfoldable pub literal : Bool → List ℕ → ℕ → Literal
 literal s S a = record { positive = s; said = record { creds = S; atoms = []; atom = a } }
 
-line : Rule → List Literal → Line
+unfoldable pub line : Rule → List Literal → Line
 line r ls = record { rule = r; literals = ls }
 
-p : List Line
+unfoldable pub p : List Line
 p =
     line (Rule.probe 0) (literal true (0 ∷ []) 2 ∷ [])
     ∷ line (Rule.probe 1) (literal false [] 2 ∷ [])
@@ -52,14 +52,14 @@ p =
     ∷ []
 
 -- all that the judge's outcome computes through
-compute : Unit {0}
+unfoldable pub compute : Unit {0}
 unfolding _and_ _or_ agree _is_ same all any put keep mem at named choose lowest round after holds read pick chosen joined given truth policy visible answer aim sameStatement supposed not₃ and₃ or₃ value _gives_ isIn denied fires claims omit others follows earlier lineFollows tried probeAgrees lastEmpty decide judge clauseOf entryOf withProbes t1 t2 literal line p
 compute = tt
 
-proof-example : judge t1 (proof p) ≡ detectable
+pub proof-example : judge t1 (proof p) ≡ detectable
 unfolding compute
 proof-example = refl
 
-witness-example : judge t2 (witness (fact 2 ∷ [])) ≡ opaque
+pub witness-example : judge t2 (witness (fact 2 ∷ [])) ≡ opaque
 unfolding compute
 witness-example = refl

@@ -1,0 +1,85 @@
+-- "These empty builds have to break the promise": no function that keeps the promise of `judge` or of `answers` is one of them.
+use Prim.Native.Nat.{ℕ}
+use mathlib.Core.Path.{_≡_}
+use mathlib.Core.Bool.{true, false}
+use mathlib.Core.List.{List}
+use Rattle.meaning.specs.Tests.{_∈_}
+use Rattle.meaning.specs.Policy.{Policy}
+use Rattle.meaning.specs.Papers.{Entry, Dossier, visible, answer, Line, witness, proof}
+use Rattle.meaning.specs.Looks.{Detectable}
+use Rattle.meaning.specs.Rules.{lineFollows}
+use Rattle.meaning.specs.Verdict.{tried, probeAgrees, lastEmpty}
+use Rattle.promise.specs.Code.{codeDossier, codeCertificate}
+use Rattle.promise.specs.Form.{DossierForm}
+use Rattle.reply.specs.Answer.{accepted, refused}
+use Rattle.reply.specs.declared.Paper.{Paper}
+use Rattle.reply.specs.declared.Reply.{Reply}
+use Rattle.reply.specs.declared.Verdict.the-variants.{Opaque, Detectable as detectable}
+use Rattle.judging.specs.Judge.{judgeOf}
+use Rattle.judging.specs.Answers.{answersOf, tableAfter}
+use Rattle.judging.specs.Demands.{SoundFor}
+use Rattle.judging.specs.declared.Answered.{Answered}
+use Rattle.judging.specs.declared.Answered.the-variants.{Count}
+
+-- f keeps the promise of `judge`
+abbrev pub Keeps : (List ℕ → List ℕ → Reply) → Type 0
+Keeps f = (d c : List ℕ) → f d c ≡ judgeOf d c
+
+-- ---- the builds
+
+-- "one that refuses everything"
+abbrev pub RefusesAll : (List ℕ → List ℕ → Reply) → Type 0
+RefusesAll f = (d c : List ℕ) → (e : ℕ) × (p : Paper) × (a : ℕ) × (n : ℕ) × (f d c ≡ refused e p a n)
+
+-- "one that always says detectable"
+abbrev pub AlwaysDetectable : (List ℕ → List ℕ → Reply) → Type 0
+AlwaysDetectable f = (d c : List ℕ) → f d c ≡ accepted detectable
+
+-- it accepts each sound witness that makes the secret false and has P, each sound proof whose last line is empty and that has Q
+abbrev pub Trusts : (List ℕ → List ℕ → Reply) → (Dossier → Policy → Type 0) → Type 0
+Trusts f P =
+    (D : Dossier) (W : Policy) → DossierForm D → SoundFor D (witness W) → P D W → answer D (tried D W) (D .secret) ≡ false
+    → f (codeDossier D) (codeCertificate (witness W)) ≡ accepted Opaque
+
+abbrev pub TrustsLines : (List ℕ → List ℕ → Reply) → (Dossier → List Line → Type 0) → Type 0
+TrustsLines f Q =
+    (D : Dossier) (ls : List Line) → DossierForm D → SoundFor D (proof ls) → Q D ls → lastEmpty ls ≡ true
+    → f (codeDossier D) (codeCertificate (proof ls)) ≡ accepted detectable
+
+-- "one that tests only the first probe or first line and trusts the rest"
+abbrev pub FirstProbe : Dossier → Policy → Type 0
+FirstProbe D W = probeAgrees D W 0 ≡ true
+
+abbrev pub FirstLine : Dossier → List Line → Type 0
+FirstLine D ls = lineFollows D ls 0 ≡ true
+
+-- "Comparing with answers kept from an earlier save": one of before the hidden clauses were there
+abbrev pub EarlierSave : Dossier → Policy → Type 0
+EarlierSave D W = (e : Entry) → e ∈ D .probes → answer D (tried D W) e ≡ answer D (visible D) e
+
+-- ---- that they break the promise
+
+pub record Broken (f : List ℕ → List ℕ → Reply) : Type 0 where
+  -- "demand 2, cases (b) and (d)"
+  pub refusesAll : Keeps f → RefusesAll f → ⊥
+  pub alwaysDetectable : Keeps f → AlwaysDetectable f → ⊥
+  -- "the second also demand 3": not every dossier for which it says detectable is so
+  pub notMeant : AlwaysDetectable f → ((D : Dossier) → DossierForm D → (c : List ℕ) → f (codeDossier D) c ≡ accepted detectable → Detectable D) → ⊥
+  -- "demand 2, (e) and (c)"
+  pub firstProbe : Keeps f → Trusts f FirstProbe → ⊥
+  pub firstLine : Keeps f → TrustsLines f FirstLine → ⊥
+  pub earlierSave : Keeps f → Trusts f EarlierSave → ⊥
+
+-- f and `after` keep the promise of `answers`: the reply, and what the table then holds
+abbrev pub KeepsAnswers : (List ℕ → List ℕ → Answered) → (List ℕ → List ℕ → List ℕ) → Type 0
+KeepsAnswers f after = (d t : List ℕ) → (f d t ≡ answersOf d t) × (after d t ≡ tableAfter d t)
+
+pub record BrokenAnswers (f : List ℕ → List ℕ → Answered) (after : List ℕ → List ℕ → List ℕ) : Type 0 where
+  -- "one that leaves the answers table untouched"
+  pub untouched : KeepsAnswers f after → ((d t : List ℕ) → after d t ≡ t) → ⊥
+  -- "or gives an invented count": one that does not depend on the dossier
+  pub invented : KeepsAnswers f after → (k : ℕ) → ((d t : List ℕ) → f d t ≡ Count k) → ⊥
+
+pub record EmptyBuilds : Type 0 where
+  pub judge : (f : List ℕ → List ℕ → Reply) → Broken f
+  pub answers : (f : List ℕ → List ℕ → Answered) (after : List ℕ → List ℕ → List ℕ) → BrokenAnswers f after

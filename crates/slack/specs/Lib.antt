@@ -1,0 +1,2 @@
+pub mod NoSlack
+pub mod Builds

@@ -1,0 +1,91 @@
+-- "That any two replies allowed by a promise coincide is a proved fact": for every public function, over its contract itself.
+-- `Reads.Post` is what the checker reads of a function's contract: of the lifetimes, the arguments, the answer, and the parameters at exit.
+use Prim.Native.Nat.{ℕ}
+use mathlib.Core.Path.{_≡_}
+use mathlib.Core.List.{List}
+use denote.Ref.{RefT, ptr, now}
+use Rattle.judging.proofs.judge.Reads as judging-judge
+use Rattle.judging.proofs.answers.Reads as judging-answers
+use Rattle.verdict.proofs.judge_sound.Reads as verdict-judge-sound
+use Rattle.lines.proofs.line_follows.Reads as lines-line-follows
+use Rattle.evaluation.proofs.answer_at.Reads as evaluation-answer-at
+use Rattle.evaluation.proofs.word_of.Reads as evaluation-word-of
+use Rattle.evaluation.proofs.answers.Reads as evaluation-answers
+use Rattle.certificate.proofs.certificate.Reads as certificate-certificate
+use Rattle.dossier.proofs.dossier.Reads as dossier-dossier
+use Rattle.dossier.proofs.section_after.Reads as dossier-section-after
+use Rattle.dossier.proofs.clause_at.Reads as dossier-clause-at
+use Rattle.promise.proofs.word.Reads as promise-word
+use Rattle.promise.proofs.clause_at.Reads as promise-clause-at
+use Rattle.promise.proofs.marked_at.Reads as promise-marked-at
+use Rattle.promise.proofs.entry_at.Reads as promise-entry-at
+use Rattle.promise.proofs.literal_at.Reads as promise-literal-at
+use Rattle.promise.proofs.line_at.Reads as promise-line-at
+use Rattle.promise.proofs.data_count.Reads as promise-data-count
+use Rattle.promise.proofs.after_literals.Reads as promise-after-literals
+use Rattle.promise.proofs.next_at.Reads as promise-next-at
+use Rattle.promise.proofs.starts.Reads as promise-starts
+use Rattle.words.proofs.word_in.Reads as words-word-in
+use Rattle.words.proofs.rising_words.Reads as words-rising-words
+use Rattle.words.proofs.list_at.Reads as words-list-at
+use Rattle.reply.proofs.shown.Reads as reply-shown
+use Rattle.text.proofs.split.Reads as text-split
+use Rattle.text.proofs.words.Reads as text-words
+use Rattle.text.proofs.line.Reads as text-line
+use Rattle.text.proofs.input_line.Reads as text-input-line
+
+-- two answers to the same arguments that the promise allows are one
+abbrev pub OneReply : {K A X E : Type 0} → (K → A → X → E → Type 0) → Type 0
+OneReply {K} {A} {X} {E} Post = (κs : K) (a : A) (x y : X) (e f : E) → Post κs a x e → Post κs a y f → x ≡ y
+
+-- what `of` gives of two such answers is one
+abbrev pub OneOf : {K A X E B : Type 0} → (X → B) → (K → A → X → E → Type 0) → Type 0
+OneOf {K} {A} {X} {E} of Post = (κs : K) (a : A) (x y : X) (e f : E) → Post κs a x e → Post κs a y f → of x ≡ of y
+
+-- and a lent table then holds the same words: `table` finds it among the parameters at exit
+abbrev pub OneTable : {K A X E : Type 0} → (E → RefT (List ℕ)) → (K → A → X → E → Type 0) → Type 0
+OneTable {K} {A} {X} {E} table Post = (κs : K) (a : A) (x y : X) (e f : E) → Post κs a x e → Post κs a y f → now (table e) ≡ now (table f)
+
+pub record NoSlack : Type 0 where
+  -- judging
+  pub judge : OneReply judging-judge.Post
+  pub answers : OneReply judging-answers.Post
+  pub answersTable : OneTable (λ e. e .1 .0) judging-answers.Post
+  -- verdict, lines
+  pub judgeSound : OneReply verdict-judge-sound.Post
+  pub lineFollows : OneReply lines-line-follows.Post
+  -- evaluation
+  pub answerAt : OneReply evaluation-answer-at.Post
+  pub wordOf : OneReply evaluation-word-of.Post
+  pub answered : OneReply evaluation-answers.Post
+  pub answeredTable : OneTable (λ e. e .1 .1 .1 .1 .1 .0) evaluation-answers.Post
+  -- certificate, dossier
+  pub certificate : OneReply certificate-certificate.Post
+  pub dossier : OneReply dossier-dossier.Post
+  pub sectionAfter : OneReply dossier-section-after.Post
+  pub clauseRead : OneReply dossier-clause-at.Post
+  -- promise
+  pub word : OneReply promise-word.Post
+  pub clauseAt : OneReply promise-clause-at.Post
+  pub markedAt : OneReply promise-marked-at.Post
+  pub entryAt : OneReply promise-entry-at.Post
+  pub literalAt : OneReply promise-literal-at.Post
+  pub lineAt : OneReply promise-line-at.Post
+  pub dataCount : OneReply promise-data-count.Post
+  pub afterLiterals : OneReply promise-after-literals.Post
+  pub nextAt : OneReply promise-next-at.Post
+  pub startsTable : OneTable (λ e. e .1 .1 .1 .1 .0) promise-starts.Post
+  -- words
+  pub wordIn : OneReply words-word-in.Post
+  pub risingWords : OneReply words-rising-words.Post
+  pub listAt : OneReply words-list-at.Post
+  -- reply: the words, and their place in memory
+  pub shownWords : OneOf now reply-shown.Post
+  pub shownPlace : OneOf ptr reply-shown.Post
+  -- text
+  pub split : OneReply text-split.Post
+  pub wordsTable : OneTable (λ e. e .1 .0) text-words.Post
+  pub line : OneReply text-line.Post
+  pub lineTable : OneTable (λ e. e .1 .0) text-line.Post
+  pub inputLine : OneReply text-input-line.Post
+  pub inputLineTable : OneTable (λ e. e .0) text-input-line.Post
