@@ -1,17 +1,18 @@
 -- The literals of a line, read one after the other: those read before are the ones that are seen from the first's place on.
 use Prim.Native.Nat.{ℕ, zero, suc, _+_, _-_, _<_, _≤_}
 use mathlib.Core.Path.{_≡_, refl, sym, ap, _∙_}
-use mathlib.Core.Bool.{Bool, true, false}
+use mathlib.Core.Bool.{Bool, true, false, not}
 use mathlib.Core.List.{List, [], _∷_, _++_}
 use native.Mathlib.Omega.{arith}
 use native.Mathlib.Numerals.{add-one}
 use borrow.Author.Count.{below-more}
 use lib.ListN.{drop}
-use Rattle.words.specs.Out.{got, bad}
+use Rattle.words.specs.Out.{Out, got, bad, then, made, need}
+use Rattle.meaning.specs.Papers.{Literal}
 use Rattle.words.specs.Answer.{asStep}
 use Rattle.words.specs.declared.Step.{Step}
 use Rattle.words.specs.declared.Step.the-variants.{Next, Refused}
-use Rattle.words.proofs.Steps.{passed, step-made}
+use Rattle.words.proofs.Steps.{passed, step-made, step-got}
 use Rattle.words.proofs.Promise.{reads-got}
 use Rattle.promise.specs.Place.{Kind, place, many, Fit}
 use Rattle.promise.specs.Line as seen
@@ -41,6 +42,51 @@ lit n m ws p {q = q} f g =
     let v = literals-seen ws p l (drop q ws) (s .words) tt in
     record { is = rw (v .that) e; next = s .next ∙ sym (v .next); ok = v .ok }
 
+-- one literal after those before: it is refused, and so are more of them; or it was read, and speaks of nothing new
+module _ (n m : ℕ) (before : List Literal) (ws : List ℕ) (p : ℕ) where
+  pub one-stop : {e q w : ℕ} → literal n m ws p ≡ bad e q w → asStep (literals n m 1 before ws p) ≡ Refused e q w
+  unfolding literals asStep
+  one-stop h = rw h
+
+  module _ {l : Literal} {q : ℕ} (h : literal n m ws p ≡ got l q) {r : Bool} (e : r ≡ spoken (l .said) before) where
+    pub one-twice : r ≡ true → asStep (literals n m 1 before ws p) ≡ Refused 13 p 1
+    unfolding literals asStep
+    one-twice y = let z = sym e ∙ y in rw (h, z)
+
+    pub one-on : r ≡ false → asStep (literals n m 1 before ws p) ≡ Next q
+    unfolding literals asStep
+    one-on y = let z = sym e ∙ y in rw (h, z)
+
+  one-bad : (j : ℕ) {e q w : ℕ} → asStep (literals n m 1 before ws p) ≡ Refused e q w → asStep (literals n m (suc j) before ws p) ≡ Refused e q w
+  unfolding literals asStep
+  one-bad j {e} {q} {w} h = go (literal n m ws p) h
+    where
+      tested : (l : Literal) (x : ℕ) (b : Bool) → asStep (need b 13 p (got (l ∷ []) x)) ≡ Refused e q w → asStep (need b 13 p (made (λ ls. l ∷ ls) (literals n m j (before ++ (l ∷ [])) ws x))) ≡ Refused e q w
+      tested l x true k = absurd (let z : _≡_ {A = ℕ} 0 1 = cc in omega arith)
+      tested l x false k = k
+
+      go : (o : Out Literal) → asStep (then o (λ l x. need (not (spoken (l .said) before)) 13 p (got (l ∷ []) x))) ≡ Refused e q w
+          → asStep (then o (λ l x. need (not (spoken (l .said) before)) 13 p (made (λ ls. l ∷ ls) (literals n m j (before ++ (l ∷ [])) ws x)))) ≡ Refused e q w
+      go (got l x) k = tested l x (not (spoken (l .said) before)) k
+      go (bad a x b) k = k
+
+  one-passed : {q : ℕ} → asStep (literals n m 1 before ws p) ≡ Next q → (l : Literal) × ((literal n m ws p ≡ got l q) × (spoken (l .said) before ≡ false))
+  unfolding literals asStep
+  one-passed {q} h = go (literal n m ws p) refl h
+    where
+      tested : (l : Literal) (x : ℕ) → literal n m ws p ≡ got l x → (b : Bool) → spoken (l .said) before ≡ b → asStep (need (not b) 13 p (got (l ∷ []) x)) ≡ Next q
+          → (l : Literal) × ((literal n m ws p ≡ got l q) × (spoken (l .said) before ≡ false))
+      tested l x g true z k = absurd (let y : _≡_ {A = ℕ} 0 1 = cc in omega arith)
+      tested l x g false z k = let y : x ≡ q = cc in (l, (g ∙ ap (got l) y, z))
+
+      go : (o : Out Literal) → literal n m ws p ≡ o → asStep (then o (λ l x. need (not (spoken (l .said) before)) 13 p (got (l ∷ []) x))) ≡ Next q
+          → (l : Literal) × ((literal n m ws p ≡ got l q) × (spoken (l .said) before ≡ false))
+      go (got l x) g k = tested l x g (spoken (l .said) before) refl k
+      go (bad a x b) g k = absurd (let y : _≡_ {A = ℕ} 0 1 = cc in omega arith)
+
+same-value : {A : Type 0} {o : Out A} {x y : A} {q : ℕ} → o ≡ got x q → o ≡ got y q → x ≡ y
+same-value e f = cc
+
 -- what is read so far, and that the rest answers as the whole does
 pub record State (n m : ℕ) (ws : List ℕ) (at k done p : ℕ) : Type 0 where
   pub fit : Fit seen.literal ws at done
@@ -61,22 +107,19 @@ module _ {n m at k : ℕ} {ws : List ℕ} where
       at-least : k - done ≡ suc (k - (done + 1))
       at-least = omega arith
 
-      pub state-bad : {e q w : ℕ} → literal n m ws p ≡ bad e q w → asStep (literals n m k [] ws at) ≡ Refused e q w
-      unfolding literals asStep
-      state-bad h = s .same ∙ rw (at-least, h)
+      module _ {r : Step} (e : r ≡ asStep (literals n m 1 (many seen.literal ws at done) ws p)) where
+        pub state-bad : {number q w : ℕ} → r ≡ Refused number q w → asStep (literals n m k [] ws at) ≡ Refused number q w
+        state-bad h = s .same ∙ ap (λ (j : ℕ). asStep (literals n m j (many seen.literal ws at done) ws p)) at-least ∙ one-bad n m _ ws p _ (sym e ∙ h)
 
-      module _ {q : ℕ} (t : Lit n m ws p q) {r : Bool} (e : r ≡ spoken (seen.literal .read ws p .said) (many seen.literal ws at done)) where
-        pub state-twice : r ≡ true → asStep (literals n m k [] ws at) ≡ Refused 13 p 1
-        unfolding literals asStep
-        state-twice y = let z = sym e ∙ y in s .same ∙ rw (at-least, t .is, z)
-
-        pub state-on : r ≡ false → State n m ws at k (done + 1) q
+        pub state-on : {q : ℕ} → r ≡ Next q → State n m ws at k (done + 1) q
         unfolding literals Fit
-        state-on y =
-            let z = sym e ∙ y in
+        state-on {q} h =
+            let (l, (g, z)) = one-passed n m (many seen.literal ws at done) ws p (sym e ∙ h) in
+            let t = lit n m ws p {r = Next q} (sym (step-got g)) refl in
+            let y : spoken (seen.literal .read ws p .said) (many seen.literal ws at done) ≡ false = ap (λ (x : Literal). spoken (x .said) (many seen.literal ws at done)) (same-value (t .is) g) ∙ z in
             let b : many seen.literal ws at (done + 1) ≡ many seen.literal ws at done ++ (seen.literal .read ws p ∷ []) = rw (add-one done, s .here) (many-more seen.literal ws at done) in
             record {
               fit = below-more _ done (s .fit) (rw (← s .here) (t .ok));
               here = place-on (seen.literal .next ws) at done (s .here) (t .next);
-              same = s .same ∙ rw (at-least, t .is, z, b) (step-made _ _);
+              same = s .same ∙ rw (at-least, t .is, y, b) (step-made _ _);
             }

@@ -10,12 +10,10 @@ ghost use mathlib.Core.Path.{_≡_};
 ghost use mathlib.Core.List as list;
 ghost use Prim.Native.Nat.{_+_, _≤_};
 ghost use lib.ListN.{length};
-ghost use Rattle.meaning.specs.Tests.{same};
-ghost use Rattle.meaning.specs.Rules.{sameStatement};
 ghost use Rattle.words.specs.Out.{word, after};
 ghost use Rattle.words.specs.Read.{times, section};
 ghost use Rattle.words.specs.Answer.{asStep};
-ghost use Rattle.promise.specs.Place.{part, many, Fit};
+ghost use Rattle.promise.specs.Place.{many, Fit};
 ghost use Rattle.promise.specs.Line as seen;
 ghost use Rattle.dossier.specs.Found.{asSection};
 ghost use Rattle.certificate.specs.Read as read;
@@ -53,45 +51,6 @@ fn literal_at(s: &[u16], at: usize, n: usize, m: usize) -> Step
     }
 }
 
-// Whether the j words from p on and the k words from q on are the same list.
-fn same_words(s: &[u16], p: usize, j: usize, q: usize, k: usize) -> bool
-    requires { ⌜ (p + j ≤ length (now s)) × (q + k ≤ length (now s)) ⌝ }
-    ensures { λ r. ⌜ r ≡ same (part (now (s .entry)) p j) (part (now (s .entry)) q k) ⌝ }
-{
-    if j != k {
-        return false;
-    }
-    let mut a = p;
-    let mut b = q;
-    let mut left = j;
-    while 0 < left {
-        if s[a] != s[b] {
-            return false;
-        }
-        a += 1;
-        b += 1;
-        left -= 1;
-    }
-    true
-}
-
-// Whether two literals speak of one statement.
-fn same_said(s: &[u16], a: LiteralAt, b: LiteralAt) -> bool
-    requires { ⌜ (a .creds + a .ncreds ≤ length (now s)) × (a .atoms + a .natoms ≤ length (now s))
-        × (b .creds + b .ncreds ≤ length (now s)) × (b .atoms + b .natoms ≤ length (now s)) ⌝ }
-    ensures { λ r. ⌜ r ≡ sameStatement (seen.saidOf (now (s .entry)) a) (seen.saidOf (now (s .entry)) b) ⌝ }
-{
-    if same_words(s, a.creds, a.ncreds, b.creds, b.ncreds) {
-        if same_words(s, a.atoms, a.natoms, b.atoms, b.natoms) {
-            a.atom == b.atom
-        } else {
-            false
-        }
-    } else {
-        false
-    }
-}
-
 // Whether one of the count literals from `first` on speaks of the statement that the literal at p speaks of.
 fn spoken_at(s: &[u16], first: usize, count: usize, p: usize) -> bool
     requires { ⌜ Fit seen.literal (now s) first count × (seen.literalAt (now s) p .next ≤ length (now s)) ⌝ }
@@ -102,13 +61,30 @@ fn spoken_at(s: &[u16], first: usize, count: usize, p: usize) -> bool
     let mut at = first;
     while 0 < left {
         let x = promise::literal_at(s, at);
-        if same_said(s, x, l) {
+        if promise::same_said(s, x, s, l) {
             return true;
         }
         at = x.next;
         left -= 1;
     }
     false
+}
+
+// The literal at p, after `done` literals from `at` on; it speaks of no statement that one of those speaks of.
+fn next_literal(s: &[u16], at: usize, done: usize, p: usize, n: usize, m: usize) -> Step
+    requires { ⌜ Fit seen.literal (now s) at done ⌝ }
+    ensures { λ r. ⌜ r ≡ asStep (read.literals n m 1 (many seen.literal (now (s .entry)) at done) (now (s .entry)) p) ⌝ }
+{
+    match literal_at(s, p, n, m) {
+        Step::Refused(e, x, w) => Step::Refused(e, x, w),
+        Step::Next(q) => {
+            if spoken_at(s, at, done, p) {
+                Step::Refused(13, p, 1)
+            } else {
+                Step::Next(q)
+            }
+        }
+    }
 }
 
 // k literals; none speaks of a statement that one before it speaks of.
@@ -118,14 +94,11 @@ fn literals_at(s: &[u16], at: usize, k: usize, n: usize, m: usize) -> Step
     let mut done = 0;
     let mut p = at;
     while done < k {
-        match literal_at(s, p, n, m) {
+        match next_literal(s, at, done, p, n, m) {
             Step::Refused(e, x, w) => {
                 return Step::Refused(e, x, w);
             }
             Step::Next(q) => {
-                if spoken_at(s, at, done, p) {
-                    return Step::Refused(13, p, 1);
-                }
                 p = q;
             }
         }

@@ -2,7 +2,7 @@
 use mathlib.Core.Path.{refl, sym, subst}
 use mathlib.Core.List.{List, [], _∷_, List·Memᴰ·head, List·Memᴰ·tail, List·Memᴰ·not-nil}
 use Rattle.words.specs.Out as out
-use Rattle.words.specs.Read.{ranged, rising, listed, times, section}
+use Rattle.words.specs.Read.{ranged, next, rising, listed, times, section}
 use Rattle.words.specs.Code.{codeAll}
 use Rattle.meaning.specs.Tests.{_∈_}
 use Rattle.meaning.proofs.Example as meant
@@ -20,7 +20,7 @@ use Rattle.judging.specs.Cases.{Case, Holds, CasesHold}
 
 -- all that reading and judging compute through
 unfoldable pub compute : Unit {0}
-unfolding out.moved out.after ranged rising listed times section codeAll meant.compute codeFormula place rows filled layoutOf proposalOf dataCount ruleOf nextOf clause marked byKind operand formula entry secret ended sections dossier statement literal spoken literals line witnessFrom proofFrom proposal certificate showing replyAt judgeProposal judgeRead judgeOf wordTo countOf tableOf answersOf tableAfter Holds
+unfolding out.moved out.after ranged next rising listed times section codeAll meant.compute codeFormula place rows filled layoutOf proposalOf dataCount ruleOf nextOf clause marked byKind operand formula entry secret ended sections dossier statement literal spoken literals line witnessFrom proofFrom proposal certificate showing replyAt judgeProposal judgeRead judgeOf wordTo countOf tableOf answersOf tableAfter Holds
 compute = tt
 
 -- what holds of the first row and of each other holds of each

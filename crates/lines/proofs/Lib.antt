@@ -1,5 +1,5 @@
-pub mod Step
 pub mod Names
 pub mod Value
 pub mod Rules
 pub mod Tables
+pub mod Turns

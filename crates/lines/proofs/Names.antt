@@ -10,18 +10,19 @@ use borrow.Author.Tests.{lt-ltb, le-ltb}
 use lib.ListN.{length, getD}
 use Rattle.meaning.specs.Tests.{at, named, choose}
 use Rattle.meaning.specs.Papers.{Literal}
-use Rattle.meaning.specs.Rules.{others}
 use Rattle.meaning.proofs.Tests.{named-is}
 use Rattle.promise.specs.Place.{Kind, place, many, Fit, Starts}
 use Rattle.promise.specs.Line.{literalAt, literalOf, literal}
 use Rattle.promise.specs.declared.LiteralAt.{LiteralAt}
 use Rattle.promise.proofs.Place.{many-on, many-length, many-at, many-past, fit-first, fit-on}
-use Rattle.lines.specs.Named.{rowOf, Held, NamesLiteral}
+use Rattle.lines.specs.Named.{rowOf, NamesLiteral}
+use Rattle.promise.specs.Line.{Held}
 use Rattle.lines.specs.declared.Found.{Found}
 use Rattle.lines.specs.declared.Found.the-variants.{At, Nothing}
 use Rattle.lines.specs.declared.LiteralFound.{LiteralFound}
 use Rattle.lines.specs.declared.LiteralFound.the-variants as literals
-use Rattle.lines.proofs.Step.{named-no, others-all}
+use Rattle.promise.proofs.Step.{named-no}
+use Rattle.promise.proofs.Seen.{held}
 
 -- ---- in a table
 
@@ -81,10 +82,6 @@ module _ (ws : List ℕ) (o : Option Literal) {r : LiteralFound} (n : NamesLiter
   unfolding NamesLiteral
   literal-no e f = named-no f (rw e at n)
 
--- the lists of a literal whose words are there
-pub held : (ws : List ℕ) (p : ℕ) {m : LiteralAt} → m ≡ literalAt ws p → literalAt ws p .next ≤ length ws → Held ws m
-held ws p e h = rw e (record { creds = omega arith; atoms = omega arith })
-
 -- literal j of k: q is where it begins, and m its view
 pub literal-named : (ws : List ℕ) (p k j : ℕ) {q : ℕ} {m : LiteralAt} → Fit literal ws p k → j < k → q ≡ place (literal .next ws) p j → m ≡ literalAt ws q → NamesLiteral ws (at (many literal ws p k) j) (literals.Is m)
 unfolding Fit NamesLiteral
@@ -98,6 +95,6 @@ module _ (ws : List ℕ) (p k : ℕ) (more : 0 < k) {m : LiteralAt} (e : m ≡ l
   pub literals-fit : Fit literal ws p k → Held ws m × Fit literal ws (m .next) (k - 1)
   literals-fit f = (held ws p e (fit-first literal ws p k more f), rw e (fit-on literal ws p k more f))
 
--- with number k, which is past the end, none is left out
-pub others-rest : (ws : List ℕ) (p k : ℕ) → others (many literal ws p k) k ≡ many literal ws p k
-others-rest ws p k = others-all (many literal ws p k) k (omega (arith, many-length literal ws p k))
+-- number k is past the end of k literals
+pub literals-few : (ws : List ℕ) (p k : ℕ) → length (many literal ws p k) ≤ k
+literals-few ws p k = omega (arith, many-length literal ws p k)

@@ -6,7 +6,7 @@ use mathlib.Core.Bool.{Bool, true, false, not}
 use native.Mathlib.Omega.{arith}
 use lib.Dec.{eqb, ltb}
 use lib.ListN.{length, getD}
-use borrow.Author.Tests.{ne-eqb, le-ltb}
+use borrow.Author.Tests.{ne-eqb, eqb-false, le-ltb, ltb-true}
 use Rattle.meaning.specs.Tests.{_is_, choose}
 use Rattle.meaning.specs.Papers.{Dossier, Line, Rule, probe, secret, clause, assumed, credential, cut, without, resolve}
 use Rattle.meaning.specs.Looks.{aim}
@@ -29,22 +29,20 @@ opposite false e = rw e
 -- ---- how many data words
 
 module _ (x : ℕ) where
-  pub data-probe : x ≡ 1 → dataCount x ≡ 1
+  pub data-one : 0 < x → (x ≡ 2 → ⊥) → 1 ≤ dataCount x
   unfolding dataCount choose _is_
-  data-probe e = rw e
-
-  pub data-one : 3 ≤ x → 1 ≤ dataCount x
-  unfolding dataCount choose _is_
-  data-one h = rw (le-ltb x 3 h) (go (eqb x 4) (ltb x 7))
+  data-one h n = go (ltb x 3) refl (eqb x 1) refl (eqb x 4) (ltb x 7)
     where
-      go : (a b : Bool) → 1 ≤ choose a 1 (choose b 2 4)
-      go true b = omega arith
-      go false true = omega arith
-      go false false = omega arith
+      go : (a : Bool) → ltb x 3 ≡ a → (b : Bool) → eqb x 1 ≡ b → (c d : Bool) → 1 ≤ choose a (choose b 1 0) (choose c 1 (choose d 2 4))
+      go true e true f c d = omega arith
+      go true e false f c d = let k : x ≡ 1 → ⊥ = eqb-false _ _ f in absurd (omega (arith, ltb-true x 3 e))
+      go false e b f true d = omega arith
+      go false e b f false true = omega arith
+      go false e b f false false = omega arith
 
-  pub data-two : 3 ≤ x → (x ≡ 4 → ⊥) → 2 ≤ dataCount x
+  pub data-two : 0 < x → (x ≡ 1 → ⊥) → (x ≡ 2 → ⊥) → (x ≡ 4 → ⊥) → 2 ≤ dataCount x
   unfolding dataCount choose _is_
-  data-two h n = rw (le-ltb x 3 h, ne-eqb x 4 n) (go (ltb x 7))
+  data-two h a b n = let k : 3 ≤ x = omega arith in rw (le-ltb x 3 k, ne-eqb x 4 n) (go (ltb x 7))
     where
       go : (b : Bool) → 2 ≤ choose b 2 4
       go true = omega arith
@@ -54,15 +52,15 @@ module _ (x : ℕ) where
   unfolding dataCount choose _is_
   data-four h = simp (le-ltb x 3 (omega arith), ne-eqb x 4 (λ z. omega (arith, z)), le-ltb x 7 h)
 
-  pub past-six : 3 ≤ x → (x ≡ 4 → ⊥) → (x ≡ 3 → ⊥) → (x ≡ 5 → ⊥) → (x ≡ 6 → ⊥) → 7 ≤ x
-  past-six h a b c d = omega arith
+  pub last-of-six : 0 < x → x < 7 → (x ≡ 2 → ⊥) → (x ≡ 1 → ⊥) → (x ≡ 4 → ⊥) → (x ≡ 3 → ⊥) → (x ≡ 5 → ⊥) → x ≡ 6
+  last-of-six h i a b c d e = omega arith
 
 -- ---- the rule by its number
 
 module _ (ws : List ℕ) (x a : ℕ) where
-  pub rule-2 : 0 < x → x < 3 → (x ≡ 1 → ⊥) → secret ≡ ruleOf ws x a
+  pub rule-2 : x ≡ 2 → secret ≡ ruleOf ws x a
   unfolding ruleOf choose _is_
-  rule-2 h i n = let e : x ≡ 2 = omega arith in rw e
+  rule-2 e = rw e
 
   module _ {g : ℕ} (f : g ≡ getD ws a 0) where
     pub rule-1 : x ≡ 1 → probe g ≡ ruleOf ws x a

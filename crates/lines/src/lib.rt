@@ -11,21 +11,25 @@ use promise::entry_at;
 use promise::line_at;
 use promise::literal_at;
 use promise::marked_at;
+use promise::same_said;
+use promise::same_words;
 use promise::word;
 ghost use mathlib.Core.Path.{_≡_};
 ghost use mathlib.Core.List.{List};
-ghost use Prim.Native.Nat.{ℕ, _+_, _≤_, _<_};
+ghost use mathlib.Core.Bool.{not};
+ghost use mathlib.Core.Option.{some};
+ghost use Prim.Native.Nat.{ℕ, _+_, _-_, _≤_, _<_};
 ghost use lib.ListN.{length};
-ghost use Rattle.meaning.specs.Tests.{_and_, agree, same, all, mem, at, named};
+ghost use Rattle.meaning.specs.Tests.{_and_, _or_, _is_, agree, same, all, choose, mem, at, named};
 ghost use Rattle.meaning.specs.Formula.{read};
 ghost use Rattle.meaning.specs.Papers.{Dossier, Line, Rule};
 ghost use Rattle.meaning.specs.Rules.{sameStatement, supposed, value, _gives_, isIn, denied, fires, claims, omit, others, follows};
 ghost use Rattle.promise.specs.Place.{part, many, Fit, Starts};
 ghost use Rattle.promise.specs.Clause.{clauseOf};
 ghost use Rattle.promise.specs.Formula.{formulaAt, formulaEnd, FormulaFits, entryAt, entryOf};
-ghost use Rattle.promise.specs.Line.{saidOf, literalOf, literalsOf, lineAt, lineOf, line, LineFits};
+ghost use Rattle.promise.specs.Line.{Held, saidOf, literalOf, literalsOf, dataCount, ruleOf, lineAt, lineOf, line, LineFits};
 ghost use Rattle.promise.specs.Layout.{dossierAt, Laid};
-ghost use Rattle.lines.specs.Named.{rowOf, LiteralsFit, Held, BodyFits, NamesLiteral};
+ghost use Rattle.lines.specs.Named.{rowOf, takenOf, LiteralsFit, BodyFits, NamesLiteral};
 ghost use Rattle.lines.specs.Tri.{triOf, not3, and3, or3, supposing, gives3};
 ghost use Rattle.lines.specs.Asks.{coveredAtom, coveredCred, cuts, withouts, resolves};
 ghost use Rattle.lines.specs.Ready.{ClauseStarts, CredStarts, ProbeStarts, LineStarts, Told, Ready};
@@ -69,26 +73,27 @@ fn literal_nth(s: &[u16], v: LineAt, j: usize) -> LiteralFound
 
 // ---- lists of numbers
 
-// Whether the k numbers of s from p on are the j of t from q on.
-fn same_words(s: &[u16], p: usize, k: usize, t: &[u16], q: usize, j: usize) -> bool
-    requires { ⌜ (p + k ≤ length (now s)) × (q + j ≤ length (now t)) ⌝ }
-    ensures { λ r. ⌜ r ≡ same (part (now (s .entry)) p k) (part (now (t .entry)) q j) ⌝ }
+// How many numbers of a list a number takes; or that it does not fit.
+enum Taken {
+    Words(usize),
+    Misfit,
+}
+
+// What y takes of the m numbers of s from a on: none if it is c, else the first, if that is y.
+fn take_up(s: &[u16], a: usize, m: usize, y: usize, c: usize) -> Taken
+    requires { ⌜ a + m ≤ length (now s) ⌝ }
+    ensures { λ r. ⌜ r ≡ takenOf (now (s .entry)) a m y c ⌝ }
 {
-    if k != j {
-        return false;
+    if y == c {
+        return Taken::Words(0);
     }
-    let mut a = p;
-    let mut b = q;
-    let mut left = k;
-    while 0 < left {
-        if s[a] != t[b] {
-            return false;
-        }
-        a += 1;
-        b += 1;
-        left -= 1;
+    if m == 0 {
+        return Taken::Misfit;
     }
-    true
+    if word(s, a) == y {
+        return Taken::Words(1);
+    }
+    Taken::Misfit
 }
 
 // Whether the k numbers of s from p on are the j from q on without c.
@@ -101,22 +106,13 @@ fn same_without(s: &[u16], p: usize, k: usize, q: usize, j: usize, c: usize) -> 
     let mut b = q;
     let mut left = j;
     while 0 < left {
-        let y = word(s, b);
-        if y == c {
-            b += 1;
-            left -= 1;
-        } else {
-            if m == 0 {
-                return false;
-            }
-            if word(s, a) != y {
-                return false;
-            }
-            a += 1;
-            m -= 1;
-            b += 1;
-            left -= 1;
-        }
+        let Taken::Words(u) = take_up(s, a, m, word(s, b), c) else {
+            return false;
+        };
+        a += u;
+        m -= u;
+        b += 1;
+        left -= 1;
     }
     m == 0
 }
@@ -139,20 +135,6 @@ fn among(s: &[u16], p: usize, k: usize, x: usize) -> bool
 }
 
 // ---- literals
-
-// Whether m, a literal in s, and l, one in t, speak of one statement.
-fn same_said(s: &[u16], m: LiteralAt, t: &[u16], l: LiteralAt) -> bool
-    requires { ⌜ Held (now s) m × Held (now t) l ⌝ }
-    ensures { λ r. ⌜ r ≡ sameStatement (saidOf (now (s .entry)) m) (saidOf (now (t .entry)) l) ⌝ }
-{
-    if m.atom != l.atom {
-        return false;
-    }
-    if same_words(s, m.creds, m.ncreds, t, l.creds, l.ncreds) {
-        return same_words(s, m.atoms, m.natoms, t, l.atoms, l.natoms);
-    }
-    false
-}
 
 // Whether m and l have one sign and one statement.
 fn is_one(s: &[u16], m: LiteralAt, l: LiteralAt) -> bool
@@ -183,7 +165,25 @@ fn is_in(s: &[u16], v: LineAt, l: LiteralAt) -> bool
     false
 }
 
-// Whether each literal of u, but for number i, is one of v's. Number `left` of those that are left is none of them.
+// Whether m, number x from where one is left out, is that one or one of v's literals.
+fn other_in(s: &[u16], v: LineAt, m: LiteralAt, x: usize) -> bool
+    requires { ⌜ LiteralsFit (now s) v × Held (now s) m ⌝ }
+    ensures { λ r. ⌜ r ≡ (x is 0 or isIn (literalsOf (now (s .entry)) v) (literalOf (now (s .entry)) m)) ⌝ }
+{
+    if x == 0 {
+        return true;
+    }
+    is_in(s, v, m)
+}
+
+// The number that is left out after one literal: past the `left` that come, once it has been.
+fn later(x: usize, left: usize) -> usize
+    ensures { λ r. ⌜ r ≡ choose (x is 0) left (x - 1) ⌝ }
+{
+    if x == 0 { left } else { x - 1 }
+}
+
+// Whether each literal of u, but for number i, is one of v's.
 fn others_in(s: &[u16], v: LineAt, u: LineAt, i: usize) -> bool
     requires { ⌜ LiteralsFit (now s) v × LiteralsFit (now s) u ⌝ }
     ensures { λ r. ⌜ r ≡ all (isIn (literalsOf (now (s .entry)) v)) (others (literalsOf (now (s .entry)) u) i) ⌝ }
@@ -193,18 +193,12 @@ fn others_in(s: &[u16], v: LineAt, u: LineAt, i: usize) -> bool
     let mut x = i;
     while 0 < left {
         let m = literal_at(s, at);
-        if x == 0 {
+        if other_in(s, v, m, x) {
             at = m.next;
             left -= 1;
-            x = left;
+            x = later(x, left);
         } else {
-            if is_in(s, v, m) {
-                at = m.next;
-                left -= 1;
-                x -= 1;
-            } else {
-                return false;
-            }
+            return false;
         }
     }
     true
@@ -362,6 +356,13 @@ fn or_of(a: Tri, b: Tri) -> Tri
     not_of(and_of(not_of(a), not_of(b)))
 }
 
+// The value of two operands joined by the word x: 258 is and, 259 or.
+fn joined(x: usize, a: Tri, b: Tri) -> Tri
+    ensures { λ r. ⌜ r ≡ choose (x is 258) (and3 a b) (or3 a b) ⌝ }
+{
+    if x == 258 { and_of(a, b) } else { or_of(a, b) }
+}
+
 // Whether the value is known, and is b.
 fn gives(v: Tri, b: bool) -> bool
     ensures { λ r. ⌜ r ≡ gives3 v b ⌝ }
@@ -371,6 +372,13 @@ fn gives(v: Tri, b: bool) -> bool
         Tri::Yes => b,
         Tri::No => !b,
     }
+}
+
+// The value of a statement whose literal is false.
+fn opposite(positive: bool) -> Tri
+    ensures { λ r. ⌜ r ≡ triOf (some (not positive)) ⌝ }
+{
+    if positive { Tri::No } else { Tri::Yes }
 }
 
 // The value of the statement of l, a literal in t.
@@ -383,10 +391,7 @@ fn supposed_at(s: &[u16], v: LineAt, t: &[u16], l: LiteralAt) -> Tri
     while 0 < left {
         let m = literal_at(s, at);
         if same_said(s, m, t, l) {
-            if m.positive {
-                return Tri::No;
-            }
-            return Tri::Yes;
+            return opposite(m.positive);
         }
         at = m.next;
         left -= 1;
@@ -442,14 +447,8 @@ fn value_at(d: &[u16], at: usize, deep: usize, q: usize, n: usize, s: &[u16], v:
     let b = value_at(d, h, deep - 1, q, n, s, v);
     let u = b.value;
     let z = b.next;
-    if x == 258 {
-        return ValueAt {
-            value: and_of(t, u),
-            next: z,
-        };
-    }
     ValueAt {
-        value: or_of(t, u),
+        value: joined(x, t, u),
         next: z,
     }
 }
@@ -774,6 +773,42 @@ fn resolve_holds(
 
 // ---- the line
 
+// Rules 1 to 6, which have at most two data words and cite no line.
+fn plain_follows(
+    d: &[u16],
+    o: Layout,
+    clauses: &[usize],
+    creds: &[usize],
+    probes: &[usize],
+    answers: &[u16],
+    s: &[u16],
+    v: LineAt,
+) -> bool
+    requires { ⌜ Ready (now d) o (now clauses) (now creds) (now probes) (now answers) × LiteralsFit (now s) v × (v .args + dataCount (v .rule) ≤ length (now s)) × (0 < v .rule) × (v .rule < 7) ⌝ }
+    ensures { λ r. ⌜ ((e : List Line) → r ≡ follows (dossierAt (now (d .entry)) o) e (literalsOf (now (s .entry)) v) (ruleOf (now (s .entry)) (v .rule) (v .args))) ⌝ }
+{
+    let x = v.rule;
+    let a = v.args;
+    if x == 2 {
+        return secret_follows(d, o, s, v);
+    }
+    let g = word(s, a);
+    if x == 1 {
+        return probe_follows(d, o, probes, answers, s, v, g);
+    }
+    if x == 4 {
+        return assumed_follows(s, v, g);
+    }
+    let h = word(s, a + 1);
+    if x == 3 {
+        return clause_follows(d, o, clauses, s, v, g, h);
+    }
+    if x == 5 {
+        return credential_follows(d, o, creds, s, v, g, h);
+    }
+    cut_follows(d, o, creds, s, v, g, h)
+}
+
 // Whether the line at q follows, after the n lines of the table.
 pub fn line_follows(
     d: &[u16],
@@ -793,27 +828,12 @@ pub fn line_follows(
 {
     let v = line_at(s, q);
     let x = v.rule;
+    if x < 7 {
+        return plain_follows(d, o, clauses, creds, probes, answers, s, v);
+    }
     let a = v.args;
-    if x < 3 {
-        if x == 1 {
-            return probe_follows(d, o, probes, answers, s, v, word(s, a));
-        }
-        return secret_follows(d, o, s, v);
-    }
     let g = word(s, a);
-    if x == 4 {
-        return assumed_follows(s, v, g);
-    }
     let h = word(s, a + 1);
-    if x == 3 {
-        return clause_follows(d, o, clauses, s, v, g, h);
-    }
-    if x == 5 {
-        return credential_follows(d, o, creds, s, v, g, h);
-    }
-    if x == 6 {
-        return cut_follows(d, o, creds, s, v, g, h);
-    }
     let i = word(s, a + 2);
     let j = word(s, a + 3);
     if x == 7 {

@@ -2,9 +2,11 @@
 use Prim.Native.Nat.{ℕ, zero, suc, _+_, _-_, _<_, _≤_}
 use mathlib.Core.Path.{_≡_, refl, ap, ap₂, _∙_}
 use mathlib.Core.List.{List}
+use mathlib.Core.Bool.{Bool, true, false}
+use lib.Dec.{eqb}
 use native.Mathlib.Omega.{arith}
 use lib.ListN.{length, getD}
-use borrow.Author.Tests.{eq-eqb, ne-eqb, lt-ltb, le-ltb}
+use borrow.Author.Tests.{eq-eqb, ne-eqb, eqb-true, eqb-false, lt-ltb, le-ltb}
 use Rattle.meaning.specs.Tests.{_is_, choose}
 use Rattle.meaning.specs.Formula.{Reading, read}
 use Rattle.promise.specs.Formula.{formulaAt, formulaEnd, FormulaFits}
@@ -96,3 +98,11 @@ module _ (n d : ℕ) (ws : List ℕ) (p : ℕ) (f : FormulaFits n d ws p) where
               let k : getD ws p 0 ≡ 257 → ⊥ = λ y. omega (arith, y) in
               let g : getD ws p 0 ≡ 258 → ⊥ = λ y. e (w ∙ y) in
               rw (deep n d ws p f) (simp (le-ltb _ _ a, le-ltb _ _ b, ne-eqb _ _ c, ne-eqb _ _ k, ne-eqb _ _ g) (ap₂ (R .disj) v₁ u₂, z₂))
+
+          pub read-joined : Valued (choose (x is 258) (R .conj v u) (R .disj v u)) z
+          unfolding choose _is_
+          read-joined = go (eqb x 258) refl
+            where
+              go : (b : Bool) → eqb x 258 ≡ b → Valued (choose b (R .conj v u) (R .disj v u)) z
+              go true e = read-and (eqb-true _ _ e)
+              go false e = read-or (eqb-false _ _ e)

@@ -5,3 +5,4 @@ pub mod SeenEntry
 pub mod SeenLine
 pub mod Decoded
 pub mod Table
+pub mod Step

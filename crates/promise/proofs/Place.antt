@@ -1,7 +1,6 @@
 -- Laws of things that lie one after the other, and of tables filled from their start.
 use Prim.Native.Nat.{ℕ, zero, suc, _+_, _-_, _<_, _≤_}
 use mathlib.Core.Path.{_≡_, refl, sym, ap, _∙_, subst}
-use mathlib.Core.Bool.{Bool, true, false}
 use mathlib.Core.List.{List, [], _∷_, _++_, append-assoc, List·Memᴰ·head, List·Memᴰ·tail, List·Memᴰ·not-nil}
 use mathlib.Core.Option.{none, some}
 use native.Mathlib.Omega.{arith}
@@ -9,7 +8,7 @@ use native.Mathlib.Numerals.{add-one}
 use native.Mathlib.Decide.{decLt}
 use lib.ListN.{length, getD, take, drop, set, length-append, length-drop}
 use lib.Seq.{set-at, getD-append-seam, drop-cons}
-use Rattle.meaning.specs.Tests.{_∈_, _and_, all, at}
+use Rattle.meaning.specs.Tests.{_∈_, at}
 use Rattle.promise.specs.Place.{part, Kind, place, many, Fit, Starts, rows, filled}
 
 -- ---- a part of the words
@@ -31,21 +30,6 @@ module _ (ws : List ℕ) (p k : ℕ) (more : 0 < k) (h : p + k ≤ length ws) wh
 
   pub part-later : {x : ℕ} → x ∈ part ws (p + 1) (k - 1) → x ∈ part ws p k
   part-later m = rw (part-cons ws p k more h) (List·Memᴰ·tail m)
-
--- a test of each number of a part
-module _ (P : ℕ → Bool) (ws : List ℕ) (p k : ℕ) where
-  pub all-none : k ≤ 0 → all P (part ws p k) ≡ true
-  unfolding all
-  all-none h = ap (all P) (part-none ws p k h)
-
-  module _ (more : 0 < k) (h : p + k ≤ length ws) where
-    pub all-on : P (getD ws p 0) ≡ true → all P (part ws p k) ≡ all P (part ws (p + 1) (k - 1))
-    unfolding all _and_
-    all-on e = ap (all P) (part-cons ws p k more h) ∙ rw e
-
-    pub all-not : P (getD ws p 0) ≡ false → all P (part ws p k) ≡ false
-    unfolding all _and_
-    all-not e = ap (all P) (part-cons ws p k more h) ∙ rw e
 
 -- ---- places
 

@@ -12,7 +12,8 @@ use Rattle.promise.specs.Code.{bit, codeClause, codeMarked, codeLiteral}
 use Rattle.promise.specs.Form.{ClauseForm}
 use Rattle.promise.specs.Place.{part, Kind, place, many, Fit}
 use Rattle.promise.specs.Clause.{clauseAt, credential, marked}
-use Rattle.promise.specs.Line.{atomsAt, literalAt, literal}
+use Rattle.promise.specs.Line.{atomsAt, literalAt, Held, literal}
+use Rattle.promise.specs.declared.LiteralAt.{LiteralAt}
 use Rattle.promise.proofs.Place.{place-next}
 
 -- ---- words that lie at a place
@@ -138,3 +139,7 @@ literals-seen ws p l rest w f =
     let x = first-word ws (q + 1 + getD ws q 0) (t .past) in
     let e : literalAt ws p .next ≡ p + length (codeLiteral l) = omega (arith, s .count, t .count, length-append (said .creds) tail, length-append (said .atoms) (said .atom ∷ [])) in
     record { that = rw (b, s .that, t .that, x); next = e; ok = rw e (ends-within ws p (codeLiteral l) rest (omega arith) w) }
+
+-- the words of a literal's two lists are there
+pub held : (ws : List ℕ) (p : ℕ) {v : LiteralAt} → v ≡ literalAt ws p → literalAt ws p .next ≤ length ws → Held ws v
+held ws p e h = rw e (record { creds = omega arith; atoms = omega arith })

@@ -32,6 +32,11 @@ saidOf ws v = record { creds = part ws (v .creds) (v .ncreds); atoms = part ws (
 abbrev pub literalOf : List ℕ → LiteralAt → Literal
 literalOf ws v = record { positive = v .positive; said = saidOf ws v }
 
+-- the words of its two lists are there
+pub record Held (ws : List ℕ) (v : LiteralAt) : Type 0 where
+  pub creds : v .creds + v .ncreds ≤ length ws
+  pub atoms : v .atoms + v .natoms ≤ length ws
+
 abbrev pub literal : Kind Literal
 literal = record { read = λ ws p. literalOf ws (literalAt ws p); next = λ ws p. literalAt ws p .next; ok = λ ws p. literalAt ws p .next ≤ length ws }
 

@@ -2,11 +2,13 @@
 ghost use mathlib.Core.Path.{_≡_};
 ghost use Prim.Native.Nat.{_+_, _≤_, _<_};
 ghost use lib.ListN.{length, getD};
-ghost use Rattle.promise.specs.Place.{place, Fit, filled};
+ghost use Rattle.meaning.specs.Tests.{same};
+ghost use Rattle.meaning.specs.Rules.{sameStatement};
+ghost use Rattle.promise.specs.Place.{part, place, Fit, filled};
 ghost use Rattle.promise.specs.Thing.{nextOf, okOf, FitOf};
 ghost use Rattle.promise.specs.Clause.{clauseAt, markedAt};
 ghost use Rattle.promise.specs.Formula.{entryAt};
-ghost use Rattle.promise.specs.Line.{literalAt, dataCount, lineAt, literal};
+ghost use Rattle.promise.specs.Line.{literalAt, saidOf, Held, dataCount, lineAt, literal};
 
 // A clause: its head, where its body stands and how many atoms it has, and the place after it.
 pub struct ClauseAt {
@@ -234,4 +236,40 @@ pub fn starts(s: &[u16], p: usize, k: usize, thing: Thing, table: &mut [usize])
         at = next_at(s, at, thing);
         i += 1;
     }
+}
+
+// Whether the k numbers of s from p on are the j of t from q on.
+pub fn same_words(s: &[u16], p: usize, k: usize, t: &[u16], q: usize, j: usize) -> bool
+    requires { ⌜ (p + k ≤ length (now s)) × (q + j ≤ length (now t)) ⌝ }
+    ensures { λ r. ⌜ r ≡ same (part (now (s .entry)) p k) (part (now (t .entry)) q j) ⌝ }
+{
+    if k != j {
+        return false;
+    }
+    let mut a = p;
+    let mut b = q;
+    let mut left = k;
+    while 0 < left {
+        if s[a] != t[b] {
+            return false;
+        }
+        a += 1;
+        b += 1;
+        left -= 1;
+    }
+    true
+}
+
+// Whether m, a literal in s, and l, one in t, speak of one statement.
+pub fn same_said(s: &[u16], m: LiteralAt, t: &[u16], l: LiteralAt) -> bool
+    requires { ⌜ Held (now s) m × Held (now t) l ⌝ }
+    ensures { λ r. ⌜ r ≡ sameStatement (saidOf (now (s .entry)) m) (saidOf (now (t .entry)) l) ⌝ }
+{
+    if m.atom != l.atom {
+        return false;
+    }
+    if same_words(s, m.creds, m.ncreds, t, l.creds, l.ncreds) {
+        return same_words(s, m.atoms, m.natoms, t, l.atoms, l.natoms);
+    }
+    false
 }

@@ -1,13 +1,12 @@
 -- Laws on the part that a reply shows. They assume nothing.
 use Prim.Native.Nat.{ℕ, _+_, _≤_, _<_}
-use mathlib.Core.Path.{_≡_, sym, _∙_}
+use mathlib.Core.Path.{_≡_}
 use mathlib.Core.List.{List, []}
 use native.Mathlib.Omega.{arith}
 use lib.ListN.{length, take, drop}
-use denote.Ref.{RefT, ptr, now}
 use Rattle.reply.specs.declared.Reply.{Reply}
 use Rattle.reply.specs.declared.Verdict.{Verdict}
-use Rattle.reply.specs.Shown.{ofPaper, shownOf, shownAt}
+use Rattle.reply.specs.Shown.{ofPaper, shownOf}
 use Rattle.reply.specs.Answer.{accepted}
 use Rattle.reply.proofs.Part.{fits, counted, unfit}
 
@@ -33,11 +32,3 @@ module _ (d c : List ℕ) (reply : Reply) where
 -- an acceptance shows no word
 pub shown-accepted : (d c : List ℕ) (v : Verdict) → shownOf d c (accepted v) ≡ []
 shown-accepted d c v = shown-fits d c (accepted v) (omega arith)
-
--- the contract of `shown` leaves no choice: two results that it allows have the same words at the same place in memory
-pub one-result :
-    (d c : RefT (List ℕ)) (reply : Reply) (r q : RefT (List ℕ))
-    → (now r ≡ shownOf (now d) (now c) reply) × (ptr r ≡ shownAt d c reply)
-    → (now q ≡ shownOf (now d) (now c) reply) × (ptr q ≡ shownAt d c reply)
-    → (now r ≡ now q) × (ptr r ≡ ptr q)
-one-result d c reply r q h k = (h .0 ∙ sym (k .0), h .1 ∙ sym (k .1))

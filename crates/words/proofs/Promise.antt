@@ -11,7 +11,7 @@ use lib.ListN.{length, getD, take, drop, length-append, length-drop}
 use lib.Seq.{drop-cons, drop-drop, take-append-seam, drop-append-seam}
 use borrow.Author.Tests.{lt-ltb, le-leb, ltb-true, leb-true}
 use Rattle.words.specs.Out.{Out, got, bad, then, made, need, present, word}
-use Rattle.words.specs.Read.{ranged, inRange, rising, listed, times, section}
+use Rattle.words.specs.Read.{ranged, inRange, next, rising, listed, times, section}
 use Rattle.words.specs.Code.{codeList, codeAll, codeMany, RisingFrom}
 use Rattle.words.specs.declared.Range.{Range}
 use Rattle.words.specs.declared.Range.the-variants.{Any, Below}
@@ -234,15 +234,27 @@ all-cons {P = P} p k y m = ⊎-elim (λ e. subst P (sym e) p) (k y) (List·Mem�
 abbrev RisingIn : Range → ℕ → ℕ → List ℕ → Type 0
 RisingIn range low k xs = (length xs ≡ k) × (RisingFrom low xs × ((x : ℕ) → List·Memᴰ x xs → Within range x))
 
+-- the next of them
+module _ (range : Range) (low : ℕ) (ws : List ℕ) (at : ℕ) where
+  pub ok-next : OK (λ x p. Spans ws at (x ∷ []) p × (Within range x × (low ≤ x))) (next range low ws at)
+  unfolding next
+  ok-next = ok-then _ (ok-word ws at) (λ x p s. ok-range range x at (λ a. ok-need (leb low x) _ _ (λ b. fine (s, (a, leb-true _ _ b)))))
+
+  exact-next : {x : ℕ} {rest : List ℕ} → drop at ws ≡ x ∷ rest → Within range x → low ≤ x → next range low ws at ≡ got x (at + 1)
+  unfolding next
+  exact-next {x} h a b = let l = lies ws at h in simp (lt-ltb _ _ (l .here), l .this, within range x a, le-leb _ _ b)
+
+  in-next : In (length ws) (next range low ws at)
+  unfolding next
+  in-next = in-word ws at _ (λ x h. in-range range x at h (in-need (leb low x) _ _ h (let i : at + 1 ≤ length ws = omega arith in inGot i)))
+
 ok-rising : (range : Range) (low k : ℕ) (ws : List ℕ) (at : ℕ) → OK (λ xs p. Spans ws at xs p × RisingIn range low k xs) (rising range low k ws at)
 unfolding rising RisingFrom
 ok-rising range low zero ws at = fine (spans-none ws at, (refl, (tt, λ x m. absurd (List·Memᴰ·not-nil m))))
 ok-rising range low (suc k) ws at =
-    ok-then _ (ok-word ws at) (λ x p s.
-    ok-range range x at (λ a.
-    ok-need (leb low x) _ _ (λ b.
+    ok-then _ (ok-next range low ws at) (λ x p s.
     ok-made _ (ok-rising range (x + 1) k ws p) (λ xs q t.
-    (spans-join s (t .0), (ap suc (t .1 .0), ((leb-true _ _ b, rw (add-one x) at (t .1 .1 .0)), all-cons a (t .1 .1 .1))))))))
+    (spans-join (s .0) (t .0), (ap suc (t .1 .0), ((s .1 .1, rw (add-one x) at (t .1 .1 .0)), all-cons (s .1 .0) (t .1 .1 .1))))))
 
 exact-rising : (range : Range) (low k : ℕ) (ws : List ℕ) (at : ℕ) (xs rest : List ℕ) → drop at ws ≡ xs ++ rest → RisingIn range low k xs → rising range low k ws at ≡ got xs (at + length xs)
 unfolding rising RisingFrom
@@ -253,13 +265,12 @@ exact-rising range low (suc k) ws at (x ∷ xs) rest h f =
     let l = lies ws at h in
     let n : at + 1 + length xs ≡ at + suc (length xs) = omega arith in
     let t = exact-rising range (x + 1) k ws (at + 1) xs rest (l .after) (omega (arith, f .0), (rw (add-one x) (f .1 .0 .1), λ y m. f .1 .1 y (List·Memᴰ·tail m))) in
-    simp (lt-ltb _ _ (l .here), l .this, within range x (f .1 .1 x (List·Memᴰ·head refl)), le-leb _ _ (f .1 .0 .0), t) (ap (got (x ∷ xs)) n)
+    simp (exact-next range low ws at h (f .1 .1 x (List·Memᴰ·head refl)) (f .1 .0 .0), t) (ap (got (x ∷ xs)) n)
 
 in-rising : (range : Range) (low k : ℕ) (ws : List ℕ) (at : ℕ) → at ≤ length ws → In (length ws) (rising range low k ws at)
 unfolding rising
 in-rising range low zero ws at i = inGot i
-in-rising range low (suc k) ws at i =
-    in-word ws at _ (λ x h. in-range range x at h (in-need (leb low x) _ _ h (in-made _ (in-rising range (x + 1) k ws (at + 1) (omega arith)))))
+in-rising range low (suc k) ws at i = in-then _ (in-next range low ws at) (λ x p j. in-made _ (in-rising range (x + 1) k ws p j))
 
 pub reads-rising : (range : Range) (low k : ℕ) → Reads (rising range low k) (λ xs. xs) (λ xs. (length xs ≡ k) × (RisingFrom low xs × ((x : ℕ) → List·Memᴰ x xs → Within range x)))
 reads-rising range low k = record { sound = ok-rising range low k; exact = exact-rising range low k; inside = in-rising range low k }

@@ -9,10 +9,10 @@ use lib.Dec.{ltb, leb}
 use lib.ListN.{length, getD, drop, length-drop}
 use borrow.Author.Tests.{ltb-true, ltb-false, leb-false}
 use Rattle.words.specs.Out.{Out, got, bad, then, made, need, present, word, moved, after}
-use Rattle.words.specs.Read.{ranged, inRange, rising, listed, times, section}
+use Rattle.words.specs.Read.{ranged, inRange, next, rising, listed, times, section}
 use Rattle.words.specs.declared.Range.{Range}
 use Rattle.words.specs.declared.Range.the-variants.{Any, Below}
-use Rattle.words.proofs.Promise.{OK, fine, none, ok-word, lies, In, inGot, inBad}
+use Rattle.words.proofs.Promise.{OK, fine, none, ok-word, ok-next, lies, In, inGot, inBad}
 
 -- what was read of l words, or why not; E has what is known of the number and the place of a refusal that shows a word
 pub data Told (E : ℕ → ℕ → Type 0) (l : ℕ) {A : Type 0} : Out A → Type 0 where
@@ -106,16 +106,20 @@ module _ (E : ℕ → ℕ → Type 0) where
       order {low} {at} {x} (inl z) v b = absurd (omega (arith, leb-false low x b, z))
       order {low} {at} {x} (inr (q, a, z)) v b = four at q a (omega (arith, leb-false low x b, z, v))
 
+      told-next : (low at : ℕ) → After low at → Told E (length ws) (next range low ws at)
+      unfolding next
+      told-next low at a =
+          told-then-ok _ (ok-word ws at) (told-word at) (λ x p s j.
+          let h : at < length ws = omega (arith, s .next) in
+          let v : getD ws at 0 ≡ x = lies ws at (s .words) .this in
+          told-in range g x at v h (told-need (leb low x) (order a v) (λ _. h) (λ _. read j)))
+
       told-rising : (low k at : ℕ) → After low at → at ≤ length ws → Told E (length ws) (rising range low k ws at)
       unfolding rising
       told-rising low zero at a i = read i
       told-rising low (suc k) at a i =
-          told-then-ok _ (ok-word ws at) (told-word at) (λ x p s j.
-          let h : at < length ws = omega (arith, s .next) in
-          let v : getD ws at 0 ≡ x = lies ws at (s .words) .this in
-          told-in range g x at v h
-          (told-need (leb low x) (order a v) (λ _. h) (λ _.
-          told-made _ (told-rising (x + 1) k p (inr (at, s .next, ap (λ (y : ℕ). y + 1) (sym v))) j))))
+          told-then-ok _ (ok-next range low ws at) (told-next low at a) (λ x p s j.
+          told-made _ (told-rising (x + 1) k p (inr (at, s .0 .next, ap (λ (y : ℕ). y + 1) (sym (lies ws at (s .0 .words) .this)))) j))
 
       pub told-listed : (lo hi at : ℕ) → (Outside ws lo hi at → E 2 at) → Told E (length ws) (listed lo hi range ws at)
       unfolding listed

@@ -1,6 +1,6 @@
 -- Laws on answers: what an answer says of what was read, and one turn of each reader.
 use Prim.Native.Nat.{ℕ, suc, _+_, _-_, _<_, _≤_}
-use mathlib.Core.Path.{_≡_, refl, sym, _∙_}
+use mathlib.Core.Path.{_≡_, refl, sym, ap₂, _∙_}
 use mathlib.Core.Bool.{Bool, true, false}
 use mathlib.Core.List.{List, _∷_}
 use native.Mathlib.Omega.{arith}
@@ -8,8 +8,9 @@ use lib.Dec.{ltb, leb}
 use lib.ListN.{length, getD}
 use borrow.Author.Tests.{le-ltb, lt-ltb, le-leb, lt-leb, ltb-true, leb-true}
 use Rattle.words.specs.Out.{Out, got, bad, made, then, need, present}
-use Rattle.words.specs.Read.{ranged, inRange, rising, listed, times, section}
-use Rattle.words.specs.Answer.{asStep, asGot, tested, orOutside}
+use Rattle.words.specs.Read.{ranged, inRange, next, rising, listed, times, section}
+use Rattle.words.specs.Answer.{asStep, asGot, asLow, tested, orOutside}
+use Rattle.words.proofs.Promise.{lies, ok-got, ok-next}
 use Rattle.words.specs.declared.Step.{Step}
 use Rattle.words.specs.declared.Step.the-variants.{Next, Refused}
 use Rattle.words.specs.declared.Got.{Got}
@@ -100,31 +101,62 @@ tested-outside (Below hi e') x {e} h at o = go (ltb x hi) h
 pub less-one : (k : ℕ) → 0 < k → k ≡ suc (k - 1)
 less-one k h = omega arith
 
+-- the next word of a rising list
+module _ (range : Range) (low : ℕ) (ws : List ℕ) (p : ℕ) where
+  pub next-past : length ws ≤ p → asLow (next range low ws p) ≡ Stop 1 (length ws) 0
+  unfolding next asLow
+  next-past h = simp (le-ltb _ _ h)
+
+  module _ (here : p < length ws) {r : Tested} (t : r ≡ tested range (getD ws p 0)) where
+    pub next-range : {e : ℕ} → r ≡ Outside e → asLow (next range low ws p) ≡ Stop e p 1
+    unfolding next asLow
+    next-range g = simp (lt-ltb _ _ here, tested-outside range (getD ws p 0) (sym t ∙ g))
+
+    pub next-order : r ≡ Inside → getD ws p 0 < low → asLow (next range low ws p) ≡ Stop 4 p 1
+    unfolding next asLow
+    next-order g o = simp (lt-ltb _ _ here, tested-inside range (getD ws p 0) (sym t ∙ g), lt-leb _ _ o)
+
+    pub next-on : r ≡ Inside → low ≤ getD ws p 0 → asLow (next range low ws p) ≡ Word (getD ws p 0 + 1)
+    unfolding next asLow
+    next-on g o = simp (lt-ltb _ _ here, tested-inside range (getD ws p 0) (sym t ∙ g), le-leb _ _ o)
+
+-- such an answer taken apart
+low-stop : (o : Out ℕ) {r : Got} {e p w : ℕ} → r ≡ asLow o → r ≡ Stop e p w → o ≡ bad e p w
+unfolding asLow
+low-stop (got v p) h g = absurd (let z : _≡_ {A = ℕ} 0 1 = cc in omega arith)
+low-stop (bad e p w) h g = cc
+
+low-word : (o : Out ℕ) {r : Got} {y : ℕ} → r ≡ asLow o → r ≡ Word y → (x : ℕ) × ((q : ℕ) × ((o ≡ got x q) × (y ≡ x + 1)))
+unfolding asLow
+low-word (got v p) h g = (v, (p, (refl, cc)))
+low-word (bad e p w) h g = absurd (let z : _≡_ {A = ℕ} 0 1 = cc in omega arith)
+
+-- where it passed there is a word
+pub next-here : (range : Range) (low : ℕ) (ws : List ℕ) (p : ℕ) {r : Got} {y : ℕ} → r ≡ asLow (next range low ws p) → r ≡ Word y → p < length ws
+next-here range low ws p t g =
+    let (x, (q, (e, l))) = low-word (next range low ws p) t g in
+    lies ws p (ok-got (ok-next range low ws p) e .0 .words) .here
+
 -- one turn of a rising list, with k words to come
 module _ (range : Range) (low k : ℕ) (ws : List ℕ) (p : ℕ) where
   pub rising-none : k ≤ 0 → asStep (rising range low k ws p) ≡ Next p
   unfolding rising asStep
   rising-none h = let z : k ≡ 0 = omega arith in rw z
 
-  pub rising-past : 0 < k → length ws ≤ p → asStep (rising range low k ws p) ≡ Refused 1 (length ws) 0
-  unfolding rising asStep
-  rising-past more h = rw (less-one k more) (simp (le-ltb _ _ h))
-
-  module _ (more : 0 < k) (here : p < length ws) {r : Tested} (t : r ≡ tested range (getD ws p 0)) where
-    pub rising-range : {e : ℕ} → r ≡ Outside e → asStep (rising range low k ws p) ≡ Refused e p 1
+  module _ (more : 0 < k) {r : Got} (t : r ≡ asLow (next range low ws p)) where
+    pub rising-stop : {e q w : ℕ} → r ≡ Stop e q w → asStep (rising range low k ws p) ≡ Refused e q w
     unfolding rising asStep
-    rising-range g = rw (less-one k more) (simp (lt-ltb _ _ here, tested-outside range (getD ws p 0) (sym t ∙ g)))
+    rising-stop g = rw (less-one k more, low-stop (next range low ws p) t g)
 
-    pub rising-order : r ≡ Inside → getD ws p 0 < low → asStep (rising range low k ws p) ≡ Refused 4 p 1
+    pub rising-on : {y : ℕ} → r ≡ Word y → asStep (rising range low k ws p) ≡ asStep (rising range y (k - 1) ws (p + 1))
     unfolding rising asStep
-    rising-order g o = rw (less-one k more) (simp (lt-ltb _ _ here, tested-inside range (getD ws p 0) (sym t ∙ g), lt-leb _ _ o))
-
-    pub rising-on : r ≡ Inside → low ≤ getD ws p 0 → asStep (rising range low k ws p) ≡ asStep (rising range (getD ws p 0 + 1) (k - 1) ws (p + 1))
-    unfolding rising asStep
-    rising-on g o = on (k - 1) (less-one k more)
+    rising-on {y} g =
+        let (x, (q, (e, l))) = low-word (next range low ws p) t g in
+        let z : q ≡ p + 1 = ok-got (ok-next range low ws p) e .0 .next in
+        on (k - 1) x q (less-one k more) e ∙ ap₂ (λ (a b : ℕ). asStep (rising range a (k - 1) ws b)) (sym l) z
       where
-        on : (j : ℕ) → k ≡ suc j → asStep (rising range low k ws p) ≡ asStep (rising range (getD ws p 0 + 1) j ws (p + 1))
-        on j q = rw q (simp (lt-ltb _ _ here, tested-inside range (getD ws p 0) (sym t ∙ g), le-leb _ _ o, step-made))
+        on : (j x q : ℕ) → k ≡ suc j → next range low ws p ≡ got x q → asStep (rising range low k ws p) ≡ asStep (rising range (x + 1) j ws q)
+        on j x q z e = rw (z, e) (step-made (λ xs. x ∷ xs) (rising range (x + 1) j ws q))
 
 -- a counted list: its count is refused, or was read and the words follow
 module _ (lo hi : ℕ) (range : Range) (ws : List ℕ) (at : ℕ) where

@@ -1,5 +1,5 @@
 -- The code's answers: what was decoded is forgotten, the refusal is kept whole.
-use Prim.Native.Nat.{ℕ}
+use Prim.Native.Nat.{ℕ, _+_}
 use mathlib.Core.Bool.{Bool, true, false}
 use lib.Dec.{ltb}
 use Rattle.words.specs.Out.{Out, got, bad}
@@ -19,6 +19,11 @@ asStep (bad e p w) = Refused e p w
 unfoldable pub asGot : Out ℕ → Got
 asGot (got v p) = Word v
 asGot (bad e p w) = Stop e p w
+
+-- a word of a rising list, told by the least that the one after it may be
+unfoldable pub asLow : Out ℕ → Got
+asLow (got v p) = Word (v + 1)
+asLow (bad e p w) = Stop e p w
 
 -- a word against the range of a list, as `inRange` tests it
 abbrev pub orOutside : Bool → ℕ → Tested

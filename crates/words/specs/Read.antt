@@ -15,11 +15,14 @@ abbrev pub inRange : {A : Type 0} → Range → ℕ → ℕ → Out A → Out A
 inRange Any x at o = o
 inRange (Below hi e) x at o = need (ltb x hi) e at o
 
--- k words in the range, strictly rising, the first at least low; 4, "a list not strictly rising": the later word
+-- the next word of a list, in the range and at least low; 4, "a list not strictly rising": the later word
+unfoldable pub next : Range → ℕ → List ℕ → ℕ → Out ℕ
+next range low ws at = then (word ws at) (λ x p. inRange range x at (need (leb low x) 4 at (got x p)))
+
+-- k words in the range, strictly rising, the first at least low
 unfoldable pub rising : Range → ℕ → ℕ → List ℕ → ℕ → Out (List ℕ)
 rising range low zero ws at = got [] at
-rising range low (suc k) ws at =
-    then (word ws at) (λ x p. inRange range x at (need (leb low x) 4 at (made (λ xs. x ∷ xs) (rising range (x + 1) k ws p))))
+rising range low (suc k) ws at = then (next range low ws at) (λ x p. made (λ xs. x ∷ xs) (rising range (x + 1) k ws p))
 
 -- a count that is at least lo and below hi (2, "a count or length outside its limits": that word), and so many words
 unfoldable pub listed : ℕ → ℕ → Range → List ℕ → ℕ → Out (List ℕ)

@@ -1,7 +1,7 @@
 // Words, and rising lists of them, read at a position: what every reader of a paper shares.
 ghost use mathlib.Core.Path.{_≡_};
-ghost use Rattle.words.specs.Read.{ranged, rising, listed};
-ghost use Rattle.words.specs.Answer.{asStep, asGot, tested};
+ghost use Rattle.words.specs.Read.{ranged, next, rising, listed};
+ghost use Rattle.words.specs.Answer.{asStep, asGot, asLow, tested};
 
 // The next position, or the refusal: its number, its place, and how many words it shows.
 pub enum Step {
@@ -60,6 +60,26 @@ fn in_range(range: Range, x: usize) -> Tested
     }
 }
 
+// The word at p, which is to be in the range and at least low; told by the least that the word after it may be.
+fn next_word(s: &[u16], p: usize, low: usize, range: Range) -> Got
+    ensures { λ r. ⌜ r ≡ asLow (next range low (now (s .entry)) p) ⌝ }
+{
+    if s.len() <= p {
+        return Got::Stop(1, s.len(), 0);
+    }
+    let x = s[p] as usize;
+    match in_range(range, x) {
+        Tested::Outside(e) => {
+            return Got::Stop(e, p, 1);
+        }
+        Tested::Inside => {}
+    }
+    if x < low {
+        return Got::Stop(4, p, 1);
+    }
+    Got::Word(x + 1)
+}
+
 // k words from `at` on, each in the range, strictly rising.
 pub fn rising_words(s: &[u16], at: usize, k: usize, range: Range) -> Step
     ensures { λ r. ⌜ r ≡ asStep (rising range 0 k (now (s .entry)) at) ⌝ }
@@ -68,20 +88,14 @@ pub fn rising_words(s: &[u16], at: usize, k: usize, range: Range) -> Step
     let mut low: usize = 0;
     let mut p = at;
     while 0 < left {
-        if s.len() <= p {
-            return Step::Refused(1, s.len(), 0);
-        }
-        let x = s[p] as usize;
-        match in_range(range, x) {
-            Tested::Outside(e) => {
-                return Step::Refused(e, p, 1);
+        match next_word(s, p, low, range) {
+            Got::Stop(e, q, w) => {
+                return Step::Refused(e, q, w);
             }
-            Tested::Inside => {}
+            Got::Word(x) => {
+                low = x;
+            }
         }
-        if x < low {
-            return Step::Refused(4, p, 1);
-        }
-        low = x + 1;
         p += 1;
         left -= 1;
     }

@@ -1,9 +1,8 @@
 -- `certificate::literals_at` meets its contract. The invariant: the literals read so far are those seen from the start, and the rest answers as all do.
 use Prim.Native.Nat.{_-_}
 use mathlib.Core.Path.{sym}
-use Rattle.words.proofs.Steps.{refused}
-use Rattle.certificate.proofs.Several.{lit, State, state-first, state-none, state-bad, state-twice, state-on}
 use borrow.Author.Needs.{needs}
+use Rattle.certificate.proofs.Several.{State, state-first, state-none, state-bad, state-on}
 use Rattle.certificate.proofs.literals_at.Statement.{statement}
 use Rattle.certificate.proofs.literals_at.Tie as tie
 
@@ -16,23 +15,17 @@ abbrev μ-loop : tie.MeasureT-loop
 loop-holds : tie.Need-loop-holds Inv-loop μ-loop
 loop-holds c = state-first
 
-literal-at-requires : tie.Need-literal-at-requires Inv-loop μ-loop
-literal-at-requires c κs = search needs
+next-literal-requires : tie.Need-next-literal-requires Inv-loop μ-loop
+next-literal-requires c κs = c .before .loop .inv .fit
 
 enum-known-e : tie.Need-enum-known-e Inv-loop μ-loop
 enum-known-e c = search needs
 
 returns : tie.Need-returns Inv-loop μ-loop
-returns c = sym (state-bad (c .before .before .before .before .before .loop .inv) (c .before .before .before .before .loop-test .taken) (refused _ (c .before .before .before .literal-at .ensures) (c .before .e .given .1)))
+returns c = sym (state-bad (c .before .before .before .before .before .loop .inv) (c .before .before .before .before .loop-test .taken) (c .before .before .before .next-literal .ensures) (c .before .e .given .1))
 
 enum-known-q : tie.Need-enum-known-q Inv-loop μ-loop
 enum-known-q c = search needs
-
-spoken-at-requires : tie.Need-spoken-at-requires Inv-loop μ-loop
-spoken-at-requires c κs = (c .before .before .before .before .before .loop .inv .fit, lit _ _ _ _ (c .before .before .before .literal-at .ensures) (c .before .q .given .1) .ok)
-
-returns-2 : tie.Need-returns-2 Inv-loop μ-loop
-returns-2 c = sym (state-twice (c .before .before .before .before .before .before .before .loop .inv) (c .before .before .before .before .before .before .loop-test .taken) (lit _ _ _ _ (c .before .before .before .before .before .literal-at .ensures) (c .before .before .before .q .given .1)) (c .before .spoken-at .ensures) (c .if1 .taken))
 
 add-done : tie.Need-add-done Inv-loop μ-loop
 add-done c = search needs
@@ -41,10 +34,10 @@ loop-less : tie.Need-loop-less Inv-loop μ-loop
 loop-less c = search needs
 
 loop-again : tie.Need-loop-again Inv-loop μ-loop
-loop-again c = state-on (c .before .before .before .before .before .before .before .loop .inv) (c .before .before .before .before .before .before .loop-test .taken) (lit _ _ _ _ (c .before .before .before .before .before .literal-at .ensures) (c .before .before .before .q .given .1)) (c .before .spoken-at .ensures) (c .if1 .left)
+loop-again c = state-on (c .before .before .before .before .before .loop .inv) (c .before .before .before .before .loop-test .taken) (c .before .before .before .next-literal .ensures) (c .before .q .given .1)
 
-returns-3 : tie.Need-returns-3 Inv-loop μ-loop
-returns-3 c = sym (state-none (c .before .loop .inv) (c .loop-test .left))
+returns-2 : tie.Need-returns-2 Inv-loop μ-loop
+returns-2 c = sym (state-none (c .before .loop .inv) (c .loop-test .left))
 
 pub literals-at-spec : {M : Type 1} → statement M
 literals-at-spec =
@@ -53,13 +46,11 @@ literals-at-spec =
     Inv-loop
     μ-loop
     loop-holds
-    literal-at-requires
+    next-literal-requires
     enum-known-e
     returns
     enum-known-q
-    spoken-at-requires
-    returns-2
     add-done
     loop-less
     loop-again
-    returns-3)
+    returns-2)

@@ -5,7 +5,8 @@ use Rattle.promise.specs.Line.{literalAt, saidOf, literal}
 use Rattle.promise.specs.declared.LiteralAt.{LiteralAt}
 use Rattle.promise.proofs.Place.{fit-first, fit-on}
 use Rattle.certificate.specs.Read.{spoken}
-use Rattle.certificate.proofs.Same.{said-within, spoken-none, spoken-yes, spoken-on}
+use Rattle.certificate.proofs.Same.{spoken-none, spoken-yes, spoken-on}
+use Rattle.promise.proofs.Seen.{held}
 use borrow.Author.Needs.{needs}
 use Rattle.certificate.proofs.spoken_at.Statement.{statement}
 use Rattle.certificate.proofs.spoken_at.Tie as tie
@@ -28,9 +29,9 @@ literal-at-requires-2 c κs = fit-first literal _ _ _ (c .loop-test .taken) (c .
 same-said-requires : tie.Need-same-said-requires Inv-loop μ-loop
 same-said-requires c κs =
     let a = c .before .before .before .before .before .args in
-    let x = said-within (a .s .now) (c .before .before .loop .at) (c .literal-at2 .ensures) (fit-first literal _ _ _ (c .before .loop-test .taken) (c .before .before .loop .inv .0)) in
-    let l = said-within (a .s .now) (a .p) (c .before .before .before .literal-at .ensures) (c .before .before .before .before .before .pre .1) in
-    (x .0, x .1, l .0, l .1)
+    let x = held (a .s .now) (c .before .before .loop .at) (c .literal-at2 .ensures) (fit-first literal _ _ _ (c .before .loop-test .taken) (c .before .before .loop .inv .0)) in
+    let l = held (a .s .now) (a .p) (c .before .before .before .literal-at .ensures) (c .before .before .before .before .before .pre .1) in
+    (x, l)
 
 returns : tie.Need-returns Inv-loop μ-loop
 returns c = sym (c .before .before .before .before .loop .inv .1 ∙ spoken-yes _ _ _ _ (c .before .before .before .loop-test .taken) (rw (c .before .before .before .before .before .literal-at .ensures, c .before .before .literal-at2 .ensures) at (c .before .same-said .ensures)) (c .if1 .taken))

@@ -1,6 +1,6 @@
 -- `lines::value_at` meets its contract, by its first word. The measure is the depth that is left.
 use native.Mathlib.Omega.{arith}
-use Rattle.promise.proofs.Formula.{deep, fits-here, fits-one, fits-two, read-and, read-atom, read-not, read-or, read-true}
+use Rattle.promise.proofs.Formula.{deep, fits-here, fits-one, fits-two, read-atom, read-joined, read-not, read-true}
 use Rattle.lines.specs.Tri.{supposing}
 use Prim.Native.Nat.{ℕ, _<_}
 use borrow.Fn.Kinds.{In}
@@ -10,10 +10,9 @@ use Rattle.lines.proofs.value_at.Kinds as kinds
 use Rattle.lines.proofs.+value_at.Lts-value_at as lts
 use Rattle.lines.proofs.+value_at.{statement}
 use Rattle.lines.proofs.+value_at.Tie.{close}
-use Rattle.lines.proofs.and_of.Reads as and-of-reads
 use Rattle.lines.proofs.atom_value.Reads as atom-value-reads
 use Rattle.lines.proofs.not_of.Reads as not-of-reads
-use Rattle.lines.proofs.or_of.Reads as or-of-reads
+use Rattle.lines.proofs.joined.Reads as joined-reads
 use Rattle.promise.proofs.word.Reads as word-reads
 
 abbrev μ : Measures 2 kinds.ps ℕ
@@ -26,7 +25,7 @@ abbrev below : ℕ → In 2 kinds.ps
 below t = and 2 kinds.ps (falls 2 kinds.ps _<_ μ t) f.Pre
 
 abbrev calls : ℕ → lts.Claims
-calls t = (word-reads.Asked, word-reads.Learnt, atom-value-reads.Asked, atom-value-reads.Learnt, below t, f.Post, not-of-reads.Asked, not-of-reads.Learnt, and-of-reads.Asked, and-of-reads.Learnt, or-of-reads.Asked, or-of-reads.Learnt)
+calls t = (word-reads.Asked, word-reads.Learnt, atom-value-reads.Asked, atom-value-reads.Learnt, below t, f.Post, not-of-reads.Asked, not-of-reads.Learnt, joined-reads.Asked, joined-reads.Learnt)
 
 word-requires : (t : ℕ) → lts.Need-word-requires (calls t) (at t) f.Post
 word-requires t c κs = fits-here _ _ _ _ (c .before .before .pre .1 .0 .1)
@@ -67,17 +66,11 @@ sub-value-at-2 t c = omega (arith, deep _ _ _ _ (c .before .before .before .befo
 value-at-requires-2 : (t : ℕ) → lts.Need-value-at-requires-2 (calls t) (at t) f.Post
 value-at-requires-2 t c κs = (omega (arith, deep _ _ _ _ (c .before .before .before .before .before .before .before .pre .1 .0 .1)), ((c .before .before .before .before .before .before .before .pre .1 .0 .0, rw (c .before .value-at .ensures .1) (fits-two _ _ _ _ (c .before .before .before .before .before .before .before .pre .1 .0 .1) (c .before .before .before .before .word .ensures .0) (omega arith))), c .before .before .before .before .before .before .before .pre .1 .1, c .before .before .before .before .before .before .before .pre .1 .2))
 
-and-of-requires : (t : ℕ) → lts.Need-and-of-requires (calls t) (at t) f.Post
-and-of-requires t c κs = tt
+joined-requires : (t : ℕ) → lts.Need-joined-requires (calls t) (at t) f.Post
+joined-requires t c κs = tt
 
 returns-4 : (t : ℕ) → lts.Need-returns-4 (calls t) (at t) f.Post
-returns-4 t c = rw (c .and-of .ensures) (read-and _ _ _ _ (c .before .before .before .before .before .before .before .before .before .before .pre .1 .0 .1) (c .before .before .before .before .before .before .before .word .ensures .0) (supposing _ _) (c .before .before .before .before .value-at .ensures .0) (c .before .before .before .before .value-at .ensures .1) (c .before .before .value-at2 .ensures .0) (c .before .before .value-at2 .ensures .1) (omega arith) (c .before .if4 .taken))
-
-or-of-requires : (t : ℕ) → lts.Need-or-of-requires (calls t) (at t) f.Post
-or-of-requires t c κs = tt
-
-returns-5 : (t : ℕ) → lts.Need-returns-5 (calls t) (at t) f.Post
-returns-5 t c = rw (c .or-of .ensures) (read-or _ _ _ _ (c .before .before .before .before .before .before .before .before .before .before .pre .1 .0 .1) (c .before .before .before .before .before .before .before .word .ensures .0) (supposing _ _) (c .before .before .before .before .value-at .ensures .0) (c .before .before .before .before .value-at .ensures .1) (c .before .before .value-at2 .ensures .0) (c .before .before .value-at2 .ensures .1) (omega arith) (c .before .if4 .left))
+returns-4 t c = rw (c .joined .ensures) (read-joined _ _ _ _ (c .before .before .before .before .before .before .before .before .before .pre .1 .0 .1) (c .before .before .before .before .before .before .word .ensures .0) (supposing _ _) (c .before .before .before .value-at .ensures .0) (c .before .before .before .value-at .ensures .1) (c .before .value-at2 .ensures .0) (c .before .value-at2 .ensures .1) (omega arith))
 
 pub +value-at-spec : {M : Type 1} → statement M
-+value-at-spec = close μ λ t. lts.spec (calls t) (at t) f.Post (word-requires t) (atom-value-requires t) (add-t17 t) (returns t) (add-t19 t) (returns-2 t) (add-value-at t) (sub-value-at t) (value-at-requires t) (not-of-requires t) (returns-3 t) (sub-value-at-2 t) (value-at-requires-2 t) (and-of-requires t) (returns-4 t) (or-of-requires t) (returns-5 t)
++value-at-spec = close μ λ t. lts.spec (calls t) (at t) f.Post (word-requires t) (atom-value-requires t) (add-t17 t) (returns t) (add-t19 t) (returns-2 t) (add-value-at t) (sub-value-at t) (value-at-requires t) (not-of-requires t) (returns-3 t) (sub-value-at-2 t) (value-at-requires-2 t) (joined-requires t) (returns-4 t)

@@ -7,7 +7,7 @@ use lib.ListN.{length}
 use Rattle.meaning.specs.Tests.{mem}
 use Rattle.promise.proofs.Place.{part-cons, part-none}
 use Rattle.promise.specs.Place.{part}
-use Rattle.lines.proofs.Step.{any-none, any-on, any-yes, is-not, is-of}
+use Rattle.promise.proofs.Step.{any-none, any-on, any-yes, is-not, is-of}
 use Rattle.lines.proofs.among.Statement.{statement}
 use Rattle.lines.proofs.among.Tie as tie
 

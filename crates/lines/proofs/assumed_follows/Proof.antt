@@ -3,7 +3,7 @@ use mathlib.Core.Path.{_∙_, sym}
 use borrow.Author.Needs.{needs}
 use Rattle.meaning.specs.Rules.{follows}
 use Rattle.lines.proofs.Names.{literal-held, literal-is, literal-no}
-use Rattle.lines.proofs.Step.{no-and, yes-and}
+use Rattle.promise.proofs.Step.{no-and, yes-and}
 use Rattle.lines.proofs.assumed_follows.Statement.{statement}
 use Rattle.lines.proofs.assumed_follows.Tie as tie
 

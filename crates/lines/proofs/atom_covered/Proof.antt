@@ -4,7 +4,7 @@ use mathlib.Core.Path.{_∙_, sym}
 use borrow.Author.Needs.{needs}
 use Rattle.meaning.proofs.Tests.{and-of, or-left}
 use Rattle.lines.specs.Asks.{coveredAtom}
-use Rattle.lines.proofs.Step.{and-no, no-and, no-or}
+use Rattle.promise.proofs.Step.{and-no, no-and, no-or}
 use Rattle.lines.proofs.atom_covered.Statement.{statement}
 use Rattle.lines.proofs.atom_covered.Tie as tie
 

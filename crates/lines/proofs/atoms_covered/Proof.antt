@@ -9,7 +9,7 @@ use Rattle.promise.proofs.Place.{part-cons, part-none}
 use Rattle.promise.specs.Line.{literalsOf, saidOf}
 use Rattle.promise.specs.Place.{part}
 use Rattle.lines.specs.Asks.{coveredAtom}
-use Rattle.lines.proofs.Step.{all-none, all-not, all-on}
+use Rattle.promise.proofs.Step.{all-none, all-not, all-on}
 use Rattle.lines.proofs.atoms_covered.Statement.{statement}
 use Rattle.lines.proofs.atoms_covered.Tie as tie
 

@@ -3,7 +3,7 @@ use mathlib.Core.Path.{_∙_, sym}
 use borrow.Author.Needs.{needs}
 use Rattle.meaning.proofs.Tests.{and-of}
 use Rattle.meaning.specs.Rules.{claims}
-use Rattle.lines.proofs.Step.{and-no, no-and, yes-and}
+use Rattle.promise.proofs.Step.{and-no, no-and, yes-and}
 use Rattle.lines.proofs.claims_without.Statement.{statement}
 use Rattle.lines.proofs.claims_without.Tie as tie
 

@@ -5,7 +5,7 @@ use Rattle.meaning.proofs.Tests.{and-of}
 use Rattle.meaning.specs.Rules.{fires}
 use Rattle.meaning.specs.Tests.{_and_, _or_}
 use Rattle.lines.specs.Asks.{coveredAtom}
-use Rattle.lines.proofs.Step.{and-no, is-not, is-of, no-and, yes-and}
+use Rattle.promise.proofs.Step.{and-no, is-not, is-of, no-and, yes-and}
 use Rattle.lines.proofs.clause_fires.Statement.{statement}
 use Rattle.lines.proofs.clause_fires.Tie as tie
 

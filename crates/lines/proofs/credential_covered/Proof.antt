@@ -7,7 +7,7 @@ use Rattle.promise.specs.Clause.{credential}
 use Rattle.promise.specs.Layout.{dossierAt}
 use Rattle.lines.specs.Asks.{coveredCred}
 use Rattle.lines.proofs.Names.{thing-is, thing-no, thing-ok}
-use Rattle.lines.proofs.Step.{no-or}
+use Rattle.promise.proofs.Step.{no-or}
 use Rattle.lines.proofs.credential_covered.Statement.{statement}
 use Rattle.lines.proofs.credential_covered.Tie as tie
 

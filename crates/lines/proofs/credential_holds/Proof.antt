@@ -1,7 +1,7 @@
 -- `lines::credential_holds` meets its contract.
 use mathlib.Core.Path.{_∙_, sym}
 use borrow.Author.Needs.{needs}
-use Rattle.lines.proofs.Step.{no-and, yes-and}
+use Rattle.promise.proofs.Step.{no-and, yes-and}
 use Rattle.lines.proofs.credential_holds.Statement.{statement}
 use Rattle.lines.proofs.credential_holds.Tie as tie
 

@@ -10,7 +10,7 @@ use Rattle.promise.specs.Layout.{dossierAt}
 use Rattle.promise.specs.Line.{literalsOf, saidOf}
 use Rattle.promise.specs.Place.{part}
 use Rattle.lines.specs.Asks.{coveredCred}
-use Rattle.lines.proofs.Step.{all-none, all-not, all-on}
+use Rattle.promise.proofs.Step.{all-none, all-not, all-on}
 use Rattle.lines.proofs.credentials_covered.Statement.{statement}
 use Rattle.lines.proofs.credentials_covered.Tie as tie
 

@@ -5,7 +5,7 @@ use Rattle.meaning.specs.Rules.{follows}
 use Rattle.meaning.specs.Tests.{_and_}
 use Rattle.lines.specs.Asks.{coveredAtom, coveredCred, cuts}
 use Rattle.lines.proofs.Names.{literal-held, literal-is, literal-no}
-use Rattle.lines.proofs.Step.{no-and, yes-and}
+use Rattle.promise.proofs.Step.{no-and, yes-and}
 use Rattle.lines.proofs.cut_follows.Statement.{statement}
 use Rattle.lines.proofs.cut_follows.Tie as tie
 

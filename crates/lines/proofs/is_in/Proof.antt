@@ -6,7 +6,7 @@ use Rattle.promise.proofs.Place.{fit-first, many-none}
 use Rattle.promise.specs.Line.{literal, literalOf}
 use Rattle.promise.specs.Place.{Fit, many}
 use Rattle.lines.proofs.Names.{literals-fit, literals-on}
-use Rattle.lines.proofs.Step.{any-none, any-on, any-yes}
+use Rattle.promise.proofs.Step.{any-none, any-on, any-yes}
 use Rattle.lines.proofs.is_in.Statement.{statement}
 use Rattle.lines.proofs.is_in.Tie as tie
 

@@ -1,7 +1,7 @@
 -- `lines::is_one` meets its contract.
 use mathlib.Core.Path.{_∙_, sym}
 use borrow.Author.Needs.{needs}
-use Rattle.lines.proofs.Step.{no-and, signs-agree, signs-differ, yes-and}
+use Rattle.promise.proofs.Step.{no-and, signs-agree, signs-differ, yes-and}
 use Rattle.lines.proofs.is_one.Statement.{statement}
 use Rattle.lines.proofs.is_one.Tie as tie
 

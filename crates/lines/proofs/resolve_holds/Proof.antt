@@ -4,7 +4,7 @@ use mathlib.Core.Path.{_∙_, ap, sym}
 use borrow.Author.Needs.{needs}
 use Rattle.meaning.proofs.Tests.{and-of}
 use Rattle.lines.specs.Asks.{resolves}
-use Rattle.lines.proofs.Step.{and-no, no-and, yes-and}
+use Rattle.promise.proofs.Step.{and-no, no-and, yes-and}
 use Rattle.lines.proofs.resolve_holds.Statement.{statement}
 use Rattle.lines.proofs.resolve_holds.Tie as tie
 

@@ -1,14 +1,15 @@
 -- `lines::same_without` meets its contract. The invariant: what is left of both lists lies within the words, and decides.
 use Prim.Native.Nat.{_+_, _≤_}
-use mathlib.Core.Path.{_∙_, _≡_, ap, refl, sym}
+use mathlib.Core.Path.{_∙_, _≡_, refl, sym}
 use native.Mathlib.Omega.{arith}
-use borrow.Author.Needs.{needs}
 use lib.ListN.{length}
 use Rattle.meaning.specs.Rules.{omit}
 use Rattle.meaning.specs.Tests.{same}
 use Rattle.promise.proofs.Place.{part-cons, part-none}
 use Rattle.promise.specs.Place.{part}
-use Rattle.lines.proofs.Step.{omit-keep, omit-none, omit-skip, same-end, same-not, same-on, same-short}
+use Rattle.promise.proofs.Step.{omit-none, same-end}
+use Rattle.lines.proofs.Turns.{taken-few, without-on, without-not}
+use borrow.Author.Needs.{needs}
 use Rattle.lines.proofs.same_without.Statement.{statement}
 use Rattle.lines.proofs.same_without.Tie as tie
 
@@ -24,6 +25,24 @@ loop-holds c = (c .before .pre .0, c .before .pre .1, refl)
 word-requires : tie.Need-word-requires Inv-loop μ-loop
 word-requires c κs = search needs
 
+take-up-requires : tie.Need-take-up-requires Inv-loop μ-loop
+take-up-requires c κs = c .before .before .loop .inv .0
+
+enum-known-u : tie.Need-enum-known-u Inv-loop μ-loop
+enum-known-u c = search needs
+
+enum-told : tie.Need-enum-told Inv-loop μ-loop
+enum-told c = search needs
+
+returns : tie.Need-returns Inv-loop μ-loop
+returns c = sym (c .before .before .before .before .before .loop .inv .2 ∙ without-not _ _ _ _ _ (c .before .before .before .before .before .loop .inv .0) (part-cons _ _ _ (c .before .before .before .before .loop-test .taken) (c .before .before .before .before .before .loop .inv .1)) (rw (c .before .before .before .word .ensures .0) at (c .before .before .take-up .ensures)) (c .enum-told .given .1))
+
+add-a : tie.Need-add-a Inv-loop μ-loop
+add-a c = omega (arith, taken-few _ _ _ _ _ (c .before .before .before .take-up .ensures) (c .before .u .given .1))
+
+sub-m : tie.Need-sub-m Inv-loop μ-loop
+sub-m c = taken-few _ _ _ _ _ (c .before .before .before .take-up .ensures) (c .before .u .given .1)
+
 add-b : tie.Need-add-b Inv-loop μ-loop
 add-b c = search needs
 
@@ -34,43 +53,10 @@ loop-less : tie.Need-loop-less Inv-loop μ-loop
 loop-less c = search needs
 
 loop-again : tie.Need-loop-again Inv-loop μ-loop
-loop-again c = (c .before .before .before .loop .inv .0, omega arith, c .before .before .before .loop .inv .2 ∙ ap (same _) (omit-skip _ (part-cons _ _ _ (c .before .before .loop-test .taken) (c .before .before .before .loop .inv .1)) (sym (c .before .word .ensures .0) ∙ c .if1 .taken)))
-
-returns : tie.Need-returns Inv-loop μ-loop
-returns c =
-    let k = omit-keep _ (part-cons _ _ _ (c .before .before .before .loop-test .taken) (c .before .before .before .before .loop .inv .1)) (λ z. c .before .if1 .left (c .before .before .word .ensures .0 ∙ z)) in
-    sym (c .before .before .before .before .loop .inv .2 ∙ same-short (part-none _ _ _ (omega arith)) k)
-
-word-requires-2 : tie.Need-word-requires-2 Inv-loop μ-loop
-word-requires-2 c κs = omega arith
+loop-again c = let t = without-on _ _ _ _ _ (c .before .before .before .before .before .before .loop .inv .0) (part-cons _ _ _ (c .before .before .before .before .before .loop-test .taken) (c .before .before .before .before .before .before .loop .inv .1)) (rw (c .before .before .before .before .word .ensures .0) at (c .before .before .before .take-up .ensures)) (c .before .u .given .1) in (omega (arith, taken-few _ _ _ _ _ (c .before .before .before .take-up .ensures) (c .before .u .given .1)), omega arith, c .before .before .before .before .before .before .loop .inv .2 ∙ t)
 
 returns-2 : tie.Need-returns-2 Inv-loop μ-loop
-returns-2 c =
-    let k = omit-keep _ (part-cons _ _ _ (c .before .before .before .before .before .loop-test .taken) (c .before .before .before .before .before .before .loop .inv .1)) (λ z. c .before .before .before .if1 .left (c .before .before .before .before .word .ensures .0 ∙ z)) in
-    sym (c .before .before .before .before .before .before .loop .inv .2 ∙ same-not (part-cons _ _ _ (omega arith) (c .before .before .before .before .before .before .loop .inv .0)) k (λ z. c .if3 .taken (c .before .word2 .ensures .0 ∙ z ∙ sym (c .before .before .before .before .word .ensures .0))))
-
-add-a : tie.Need-add-a Inv-loop μ-loop
-add-a c = search needs
-
-sub-m : tie.Need-sub-m Inv-loop μ-loop
-sub-m c = search needs
-
-add-b-2 : tie.Need-add-b-2 Inv-loop μ-loop
-add-b-2 c = search needs
-
-sub-left-2 : tie.Need-sub-left-2 Inv-loop μ-loop
-sub-left-2 c = search needs
-
-loop-less-2 : tie.Need-loop-less-2 Inv-loop μ-loop
-loop-less-2 c = search needs
-
-loop-again-2 : tie.Need-loop-again-2 Inv-loop μ-loop
-loop-again-2 c =
-    let k = omit-keep _ (part-cons _ _ _ (c .before .before .before .before .before .loop-test .taken) (c .before .before .before .before .before .before .loop .inv .1)) (λ z. c .before .before .before .if1 .left (c .before .before .before .before .word .ensures .0 ∙ z)) in
-    (omega arith, omega arith, c .before .before .before .before .before .before .loop .inv .2 ∙ same-on (part-cons _ _ _ (omega arith) (c .before .before .before .before .before .before .loop .inv .0)) k (sym (c .before .word2 .ensures .0) ∙ c .if3 .left ∙ c .before .before .before .before .word .ensures .0))
-
-returns-3 : tie.Need-returns-3 Inv-loop μ-loop
-returns-3 c = same-end _ _ _ (c .before .loop .inv .0) (omit-none _ (part-none _ _ _ (c .loop-test .left))) ∙ sym (c .before .loop .inv .2)
+returns-2 c = same-end _ _ _ (c .before .loop .inv .0) (omit-none _ (part-none _ _ _ (c .loop-test .left))) ∙ sym (c .before .loop .inv .2)
 
 pub same-without-spec : {M : Type 1} → statement M
 same-without-spec =
@@ -80,17 +66,14 @@ same-without-spec =
     μ-loop
     loop-holds
     word-requires
+    take-up-requires
+    enum-known-u
+    enum-told
+    returns
+    add-a
+    sub-m
     add-b
     sub-left
     loop-less
     loop-again
-    returns
-    word-requires-2
-    returns-2
-    add-a
-    sub-m
-    add-b-2
-    sub-left-2
-    loop-less-2
-    loop-again-2
-    returns-3)
+    returns-2)

@@ -1,10 +1,10 @@
--- `lines::same_said` meets its contract.
+-- `promise::same_said` meets its contract.
 use mathlib.Core.Path.{_∙_, sym}
 use borrow.Author.Needs.{needs}
 use Rattle.meaning.specs.Rules.{sameStatement}
-use Rattle.lines.proofs.Step.{and-no, and-yes, is-not, is-of, no-and, yes-and}
-use Rattle.lines.proofs.same_said.Statement.{statement}
-use Rattle.lines.proofs.same_said.Tie as tie
+use Rattle.promise.proofs.Step.{and-no, and-yes, is-not, is-of, no-and, yes-and}
+use Rattle.promise.proofs.same_said.Statement.{statement}
+use Rattle.promise.proofs.same_said.Tie as tie
 
 returns : tie.Need-returns
 unfolding sameStatement

@@ -1,15 +1,15 @@
--- `lines::same_words` meets its contract. The invariant: what is left of both lists is as long, and decides.
+-- `promise::same_words` meets its contract. The invariant: what is left of both lists is as long, and decides.
 use Prim.Native.Nat.{_+_, _≤_}
 use mathlib.Core.Path.{_∙_, _≡_, sym}
 use native.Mathlib.Omega.{arith}
 use borrow.Author.Needs.{needs}
 use lib.ListN.{length}
 use Rattle.meaning.specs.Tests.{same}
 use Rattle.promise.proofs.Place.{part-cons, part-none}
 use Rattle.promise.specs.Place.{part}
-use Rattle.lines.proofs.Step.{same-differ, same-none, same-not, same-on}
-use Rattle.lines.proofs.same_words.Statement.{statement}
-use Rattle.lines.proofs.same_words.Tie as tie
+use Rattle.promise.proofs.Step.{same-differ, same-none, same-not, same-on}
+use Rattle.promise.proofs.same_words.Statement.{statement}
+use Rattle.promise.proofs.same_words.Tie as tie
 
 abbrev Inv-loop : tie.InvT-loop
 Inv-loop s p k t q j a₀ b₀ left₀ a b left = (a + left ≤ length s) × (b + left ≤ length t) × (same (part s p k) (part t q j) ≡ same (part s a left) (part t b left))
