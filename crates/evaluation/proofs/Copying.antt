@@ -27,27 +27,25 @@ same-on a b i h l =
 pub same-all : (a b : List ℕ) (i : ℕ) → Same a b i → length b ≤ i → a ≡ b
 same-all a b i h l = ext-getD 0 a b (h .long) (λ k m. h .each k (omega (arith, h .long)))
 
--- the part that was lent for the old table, back with the copy in it
-module _ {n : ℕ} {copied table : List ℕ} (old : List ℕ) (e : copied ≡ table) (l : length table ≡ n) where
-  pub back : take n (copied ++ drop n old) ≡ table
-  back = take-at copied (drop n old) n (ap length e ∙ l) ∙ e
+-- the part that was lent of a longer table, back with what was written to it
+module _ (n : ℕ) (part old : List ℕ) (l : length part ≡ n) where
+  pub back : take n (part ++ drop n old) ≡ part
+  back = take-at part (drop n old) n l
 
-  pub back-long : n ≡ length (take n (copied ++ drop n old))
+  pub back-long : n ≡ length (take n (part ++ drop n old))
   back-long = sym (ap length back ∙ l)
 
-  pub back-whole : n ≤ length old → length (copied ++ drop n old) ≡ length old
-  back-whole h = omega (arith, length-append copied (drop n old), length-drop n old, ap length e, l)
+  pub back-whole : n ≤ length old → length (part ++ drop n old) ≡ length old
+  back-whole h = omega (arith, length-append part (drop n old), length-drop n old, l)
 
-  -- one round more, of a policy that may go by the table's length
-  pub rounds-on : {k : ℕ} (P : ℕ → Policy) {new : List ℕ} → 0 < k → new ≡ fireAll (take n (copied ++ drop n old)) (P (length (take n (copied ++ drop n old)))) (take n (copied ++ drop n old)) → rounds (P n) k table ≡ rounds (P n) (k - 1) new
-  unfolding rounds
-  rounds-on {k} P {new} more h = on (k - 1) (omega arith)
-    where
-      r : fireAll table (P n) table ≡ new
-      r = sym (h ∙ ap (λ (t : List ℕ). fireAll t (P (length t)) t) back ∙ ap (λ (j : ℕ). fireAll table (P j) table) l)
+-- ---- rounds
 
-      on : (j : ℕ) → k ≡ suc j → rounds (P n) k table ≡ rounds (P n) j new
-      on j z = rw (z, ← r)
+pub rounds-on : {k : ℕ} (P : Policy) (t : List ℕ) {new : List ℕ} → 0 < k → new ≡ fireAll t P t → rounds P k t ≡ rounds P (k - 1) new
+unfolding rounds
+rounds-on {k} P t {new} more h = on (k - 1) (omega arith)
+  where
+    on : (j : ℕ) → k ≡ suc j → rounds P k t ≡ rounds P j new
+    on j z = rw (z, h)
 
 pub rounds-none : {k : ℕ} (P : Policy) (t : List ℕ) → k ≤ 0 → rounds P k t ≡ t
 unfolding rounds
@@ -59,9 +57,9 @@ rounds-length P zero t = refl
 rounds-length P (suc k) t = rounds-length P k (fireAll t P t) ∙ fireAll-length t P t
 
 -- 64 rounds, a copy, one round more, and the comparison
-pub grown-is : (P : ℕ → Policy) (t : List ℕ) {a b u : List ℕ} {r : Bool} → a ≡ rounds (P (length t)) 64 t → b ≡ a → u ≡ rounds (P (length b)) 1 b → r ≡ any (λ x. has u x and not (has a x)) (below (length a)) → r ≡ grown (P (length t)) t
+pub grown-is : (P : Policy) (t : List ℕ) {a b u : List ℕ} {r : Bool} → a ≡ rounds P 64 t → b ≡ a → u ≡ rounds P 1 b → r ≡ any (λ x. has u x and not (has a x)) (below (length a)) → r ≡ grown P t
 unfolding grown
 grown-is P t {a} {b} {u} e f g h =
-    let n : length a ≡ length t = ap length e ∙ rounds-length (P (length t)) 64 t in
-    let v : u ≡ rounds (P (length t)) 1 a = g ∙ ap (λ (l : List ℕ). rounds (P (length l)) 1 l) f ∙ ap (λ (j : ℕ). rounds (P j) 1 a) n in
+    let n : length a ≡ length t = ap length e ∙ rounds-length P 64 t in
+    let v : u ≡ rounds P 1 a = g ∙ ap (rounds P 1) f in
     h ∙ rw (v, n, e)

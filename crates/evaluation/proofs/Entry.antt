@@ -26,7 +26,7 @@ use Rattle.promise.specs.Layout.{dossierAt}
 use Rattle.promise.specs.declared.Layout.{Layout}
 use Rattle.promise.proofs.Place.{fit-each}
 use Rattle.evaluation.specs.Table.{has, inTable, below, rounds, grown}
-use Rattle.evaluation.specs.Which.{kept, policyFrom, joinedFrom, policyAt, WhichFits, Sources, Ready}
+use Rattle.evaluation.specs.Which.{kept, policyAt, joinedAt, WhichFits, Sources, Ready}
 use Rattle.evaluation.specs.Answer.{unsettled, asAnswer, wordOf, answerOf, answerWord}
 use Rattle.evaluation.specs.declared.Answer.{Answer}
 use Rattle.evaluation.specs.declared.Answer.the-variants.{Unsettled}
@@ -55,33 +55,25 @@ below-join n P Q f g c i = go (List·Memᴰ·append-cases P i)
     go (inl j) = f c j
     go (inr j) = g c j
 
-module _ (n : ℕ) (d : List ℕ) (c k b m : ℕ) (creds w : List ℕ) (which : Which) (q l : ℕ) (s : Sources n d c k b m creds w which q l) where
-  dossier-below : (e : Bool) → Below n (kept e (many (marked n) d c k))
-  dossier-below e = below-kept n e (many (marked n) d c k) (fit-each (marked n) d (λ (x : Marked). BelowOne n (x .clause)) (λ p h. (h .head, h .body)) c k (s .clauses))
+module _ (d : List ℕ) (o : Layout) (creds w : List ℕ) (which : Which) (e : EntryAt) (s : Sources d o creds w which e) where
+  dossier-below : (b : Bool) → Below (o .atoms) (kept b (dossierAt d o .clauses))
+  unfolding dossierAt
+  dossier-below b = below-kept (o .atoms) b (many (marked (o .atoms)) d (o .clauses) (o .nclauses)) (fit-each (marked (o .atoms)) d (λ (x : Marked). BelowOne (o .atoms) (x .clause)) (λ p h. (h .head, h .body)) (o .clauses) (o .nclauses) (s .ready .laid .clauses))
 
-  policy-below : (v : Which) → WhichFits n w v → Below n (policyFrom n d c k w v)
-  unfolding policyFrom WhichFits
+  policy-below : (v : Which) → WhichFits (o .atoms) w v → Below (o .atoms) (policyAt d o w v)
+  unfolding policyAt WhichFits policy tried visible kept
   policy-below Own f = dossier-below true
-  policy-below (Tried j) f = below-join n (many (credential n) w 2 j) (kept false (many (marked n) d c k)) (below-clauses n w 2 j f) (dossier-below false)
+  policy-below (Tried j) f = below-join (o .atoms) (many (credential (o .atoms)) w 2 j) (kept false (dossierAt d o .clauses)) (below-clauses (o .atoms) w 2 j f) (dossier-below false)
 
-  pub joined-below : Below n (joinedFrom n d c k b m w which q l)
-  unfolding joinedFrom joined
+  pub joined-below : Below (o .atoms) (joinedAt d o w which e)
+  unfolding joinedAt joined dossierAt
   joined-below =
-      below-join n (policyFrom n d c k w which) (chosen (many (credential n) d b m) (part d q l) ++ []) (policy-below which (s .witness))
-      (below-join n (chosen (many (credential n) d b m) (part d q l)) [] (λ x i. let r = chosen-at (many (credential n) d b m) (part d q l) i in below-clauses n d b m (s .credentials) x (at-mem (many (credential n) d b m) (r .0) (r .2))) (λ x i. absurd (List·Memᴰ·not-nil i)))
+      let cs = many (credential (o .atoms)) d (o .creds) (o .ncreds) in
+      let S = part d (e .creds) (e .count) in
+      below-join (o .atoms) (policyAt d o w which) (chosen cs S ++ []) (policy-below which (s .ready .witness))
+      (below-join (o .atoms) (chosen cs S) [] (λ x i. let r = chosen-at cs S i in below-clauses (o .atoms) d (o .creds) (o .ncreds) (s .ready .laid .creds) x (at-mem cs (r .0) (r .2))) (λ x i. absurd (List·Memᴰ·not-nil i)))
 
--- ---- the policy is the one told by the layout
-
-policy-is : (d : List ℕ) (o : Layout) (w : List ℕ) (which : Which) → policyFrom (o .atoms) d (o .clauses) (o .nclauses) w which ≡ policyAt d o w which
-unfolding policyFrom policyAt kept policy tried visible dossierAt
-policy-is d o w Own = refl
-policy-is d o w (Tried j) = refl
-
-pub joined-is : (d : List ℕ) (o : Layout) (w : List ℕ) (which : Which) (q l : ℕ) → joinedFrom (o .atoms) d (o .clauses) (o .nclauses) (o .creds) (o .ncreds) w which q l ≡ joined (dossierAt d o .creds) (policyAt d o w which) (part d q l) []
-unfolding joinedFrom dossierAt
-joined-is d o w which q l = ap (λ (P : Policy). joined (many (credential (o .atoms)) d (o .creds) (o .ncreds)) P (part d q l) []) (policy-is d o w which)
-
--- ---- truth in the table
+-- ---- a formula read in the table of what holds
 
 truth-table : (n : ℕ) (t : List ℕ) (cs : List Clause) (P : Policy) (S : List ℕ) → Is n t (holds (joined cs P S [])) → (e : ℕ) (f : Formula) → FormulaForm n e f → read (inTable t) f ≡ truth cs P S f
 unfolding FormulaForm read inTable truth given
@@ -114,16 +106,17 @@ module _ (n : ℕ) (P : Policy) (f : Below n P) (t : List ℕ) (size : length t 
 -- all that is known of the entry at p, whose view is e
 module _ (d : List ℕ) (o : Layout) (creds w : List ℕ) (which : Which) (ready : Ready d o creds w which) (p : ℕ) (fits : EntryFits (o .atoms) (o .ncreds) d p) (e : EntryAt) (seen : e ≡ entryAt d p) where
   abbrev pub J : Policy
-  J = joinedFrom (o .atoms) d (o .clauses) (o .nclauses) (o .creds) (o .ncreds) w which (e .creds) (e .count)
+  J = joinedAt d o w which e
 
-  pub sources : Sources (o .atoms) d (o .clauses) (o .nclauses) (o .creds) (o .ncreds) creds w which (e .creds) (e .count)
-  sources = rw seen (record { clauses = ready .laid .clauses; credentials = ready .laid .creds; starts = ready .starts; witness = ready .witness; there = omega (arith, fits .ends); names = fits .creds })
+  pub sources : Sources d o creds w which e
+  sources = rw seen (record { ready = ready; there = omega (arith, fits .ends); names = fits .creds })
 
   J-below : Below (o .atoms) J
-  J-below = joined-below (o .atoms) d (o .clauses) (o .nclauses) (o .creds) (o .ncreds) creds w which (e .creds) (e .count) sources
+  J-below = joined-below d o creds w which e sources
 
   J-is : J ≡ joined (dossierAt d o .creds) (policyAt d o w which) (entryOf d (entryAt d p) .creds) []
-  J-is = joined-is d o w which (e .creds) (e .count) ∙ ap (λ (v : EntryAt). joined (dossierAt d o .creds) (policyAt d o w which) (part d (v .creds) (v .count)) []) seen
+  unfolding joinedAt
+  J-is = ap (λ (v : EntryAt). joined (dossierAt d o .creds) (policyAt d o w which) (entryOf d v .creds) []) seen
 
   module _ (t : List ℕ) (size : length t ≡ o .atoms) (none : (a : ℕ) → a < o .atoms → has t a ≡ false) where
     unsettled-is : grown J t ≡ unsettled (o .atoms) (joined (dossierAt d o .creds) (policyAt d o w which) (entryOf d (entryAt d p) .creds) [])
@@ -137,25 +130,13 @@ module _ (d : List ℕ) (o : Layout) (creds w : List ℕ) (which : Which) (ready
         (λ a h. rounds-give (o .atoms) J J-below t (omega (arith, size)) none (ready .laid .atoms) a h ∙ ap (λ (P : Policy). holds P a) J-is)
         16 (formulaAt 16 d (entryAt d p .formula)) (fits .form)
 
-    -- as the code finds it, by the table's length
-    abbrev pub K : Policy
-    K = joinedFrom (length t) d (o .clauses) (o .nclauses) (o .creds) (o .ncreds) w which (e .creds) (e .count)
-
-    K-is : K ≡ J
-    K-is = ap (λ (j : ℕ). joinedFrom j d (o .clauses) (o .nclauses) (o .creds) (o .ncreds) w which (e .creds) (e .count)) size
-
-    pub sources-at : Sources (length t) d (o .clauses) (o .nclauses) (o .creds) (o .ncreds) creds w which (e .creds) (e .count)
-    sources-at = subst (λ (j : ℕ). Sources j d (o .clauses) (o .nclauses) (o .creds) (o .ncreds) creds w which (e .creds) (e .count)) (sym size) sources
-
-    pub answer-unsettled : {r : Bool} → r ≡ grown K t → r ≡ true → Unsettled ≡ answerOf d o w which p
+    pub answer-unsettled : {r : Bool} → r ≡ grown J t → r ≡ true → Unsettled ≡ answerOf d o w which p
     unfolding answerOf asAnswer
-    answer-unsettled f h = rw (sym unsettled-is ∙ sym (f ∙ ap (λ (P : Policy). grown P t) K-is) ∙ h)
+    answer-unsettled f h = rw (sym unsettled-is ∙ sym f ∙ h)
 
-    pub answer-settled : {r b : Bool} {u : List ℕ} → r ≡ grown K t → r ≡ false → u ≡ rounds K 64 t → b ≡ read (inTable u) (formulaAt 16 d (e .formula)) → asAnswer false b ≡ answerOf d o w which p
+    pub answer-settled : {r b : Bool} {u : List ℕ} → r ≡ grown J t → r ≡ false → u ≡ rounds J 64 t → b ≡ read (inTable u) (formulaAt 16 d (e .formula)) → asAnswer false b ≡ answerOf d o w which p
     unfolding answerOf
-    answer-settled f h g k =
-        ap₂ asAnswer (sym h ∙ f ∙ ap (λ (P : Policy). grown P t) K-is ∙ unsettled-is)
-        (k ∙ ap (λ (x : List ℕ). read (inTable x) (formulaAt 16 d (e .formula))) (g ∙ ap (λ (P : Policy). rounds P 64 t) K-is) ∙ truth-is)
+    answer-settled f h g k = ap₂ asAnswer (sym h ∙ f ∙ unsettled-is) (k ∙ ap (λ (x : List ℕ). read (inTable x) (formulaAt 16 d (e .formula))) g ∙ truth-is)
 
 -- ---- a table with no atoms
 

@@ -1,40 +1,45 @@
--- One turn of firing the clauses of a policy, one after the other.
-use Prim.Native.Nat.{ℕ, suc, _+_, _-_, _<_, _≤_}
-use mathlib.Core.Path.{_≡_, refl, sym, ap, _∙_}
+-- Firing the clauses of a policy, one after the other.
+use Prim.Native.Nat.{ℕ, zero, suc, _+_, _-_, _<_, _≤_}
+use mathlib.Core.Path.{_≡_, refl, sym, ap, _∙_, subst}
 use mathlib.Core.Bool.{Bool, true, false, not}
-use mathlib.Core.List.{List, [], _∷_, _++_, map, append-nil}
+use mathlib.Core.List.{List, [], _∷_, _++_, map, append-nil, List·Memᴰ·head, List·Memᴰ·tail}
 use mathlib.Core.Option.{some}
 use native.Mathlib.Omega.{arith}
-use borrow.Author.Tests.{eq-eqb, ne-eqb}
 use lib.Dec.{eqb}
 use lib.ListN.{length, getD, set, length-set}
 use Rattle.meaning.specs.Tests.{_∈_, _and_, _or_, _is_, any, all, choose, put, keep, at}
 use Rattle.meaning.specs.Policy.{Clause, Policy}
 use Rattle.meaning.specs.Formula.{pick, chosen, joined}
-use Rattle.meaning.specs.Papers.{Marked}
-use Rattle.promise.specs.Place.{part, many, Fit, Starts}
-use Rattle.promise.specs.Clause.{clauseAt, clauseOf, ClauseFits, credential, marked, markedAt, markedOf}
+use Rattle.meaning.specs.Papers.{Marked, policy, visible}
+use Rattle.meaning.specs.Verdict.{tried}
+use Rattle.promise.specs.Place.{Kind, part, many, place, Fit, Starts}
+use Rattle.promise.specs.Clause.{clauseAt, clauseOf, ClauseFits, credential, marked}
+use Rattle.promise.specs.Layout.{dossierAt}
 use Rattle.promise.specs.declared.ClauseAt.{ClauseAt}
-use Rattle.promise.specs.declared.MarkedAt.{MarkedAt}
-use Rattle.promise.proofs.Place.{part-none, part-cons, many-none, many-on, many-at}
-use Rattle.evaluation.specs.Table.{has, fireOne, fireAll}
-use Rattle.evaluation.specs.Table.{below}
-use Rattle.evaluation.specs.Which.{kept, policyFrom, joinedFrom, WhichFits}
+use Rattle.promise.specs.declared.EntryAt.{EntryAt}
+use Rattle.promise.specs.declared.Layout.{Layout}
+use Rattle.promise.proofs.Place.{part-none, part-cons, place-next, many-none, many-on, many-at, fit-first, fit-on}
+use Rattle.evaluation.specs.Table.{has, fireOne, fireAll, below}
+use Rattle.evaluation.specs.Which.{Fires, kept, fireMarked, namedAt, NamedFits, named, policyAt, joinedAt, WhichFits, Sources}
 use Rattle.evaluation.specs.declared.Which.{Which}
 use Rattle.evaluation.specs.declared.Which.the-variants.{Own, Tried}
+
+-- ---- one clause
 
 -- the code's test of a byte
 pub has-word : (t : List ℕ) (a : ℕ) → eqb (getD t a 0) 1 ≡ has t a
 unfolding has _is_
 has-word t a = refl
 
-pub fire-yes : (old : List ℕ) (c : Clause) (new : List ℕ) {r : Bool} → r ≡ all (has old) (c .body) → r ≡ true → set new (c .head) 1 ≡ fireOne old c new
-unfolding fireOne choose
-fire-yes old c new e t = rw (sym e ∙ t)
+-- the body was tested: the head is put in, or not
+module _ (old : List ℕ) (h : ℕ) (body new : List ℕ) {r : Bool} (e : r ≡ all (has old) body) where
+  pub fire-yes : r ≡ true → set new h 1 ≡ fireOne old (record { head = h; body = body }) new
+  unfolding fireOne choose
+  fire-yes t = rw (sym e ∙ t)
 
-pub fire-no : (old : List ℕ) (c : Clause) (new : List ℕ) {r : Bool} → r ≡ all (has old) (c .body) → r ≡ false → new ≡ fireOne old c new
-unfolding fireOne choose
-fire-no old c new e t = rw (sym e ∙ t)
+  pub fire-no : r ≡ false → new ≡ fireOne old (record { head = h; body = body }) new
+  unfolding fireOne choose
+  fire-no t = rw (sym e ∙ t)
 
 pub fire-length : (old : List ℕ) (c : Clause) (new : List ℕ) → length (fireOne old c new) ≡ length new
 unfolding fireOne choose
@@ -44,10 +49,23 @@ fire-length old c new = go (all (has old) (c .body))
     go true = length-set new (c .head) 1
     go false = refl
 
-pub chosen-length : (b : Bool) (old : List ℕ) (c : Clause) (new : List ℕ) → length (choose b (fireOne old c new) new) ≡ length new
-unfolding choose
-chosen-length true old c new = fire-length old c new
-chosen-length false old c new = refl
+-- what firing asks of a clause that fits, through its view
+pub fires : {s : List ℕ} {p n : ℕ} {c : ClauseAt} → c ≡ clauseAt s p → ClauseFits n s p → Fires n s c
+fires e f = rw e (record { there = f .ends; body = f .body; head = f .head })
+
+-- the atoms of its body are within any table of that length
+pub body-below : {n : ℕ} {s : List ℕ} {c : ClauseAt} → Fires n s c → (table : List ℕ) → length table ≡ n → (x : ℕ) → x ∈ part s (c .body) (c .count) → x < length table
+body-below f table e x i = omega (arith, f .body x i)
+
+-- ---- all of them
+
+pub fireAll-none : (old new : List ℕ) → fireAll old [] new ≡ new
+unfolding fireAll
+fireAll-none old new = refl
+
+pub fireAll-more : (old : List ℕ) (c : Clause) (P : Policy) (new : List ℕ) → fireAll old (c ∷ P) new ≡ fireAll old P (fireOne old c new)
+unfolding fireAll
+fireAll-more old c P new = refl
 
 pub fireAll-length : (old : List ℕ) (P : Policy) (new : List ℕ) → length (fireAll old P new) ≡ length new
 unfolding fireAll
@@ -55,105 +73,144 @@ fireAll-length old [] new = refl
 fireAll-length old (c ∷ P) new = fireAll-length old P (fireOne old c new) ∙ fire-length old c new
 
 -- one policy after the other
-pub fireAll-append : (old : List ℕ) (P Q : Policy) (new : List ℕ) → fireAll old (P ++ Q) new ≡ fireAll old Q (fireAll old P new)
+fireAll-append : (old : List ℕ) (P Q : Policy) (new : List ℕ) → fireAll old (P ++ Q) new ≡ fireAll old Q (fireAll old P new)
 unfolding fireAll
 fireAll-append old [] Q new = refl
 fireAll-append old (c ∷ P) Q new = fireAll-append old P Q (fireOne old c new)
 
--- what firing asks of a clause that fits, through its view
-pub record Fires (s : List ℕ) (c : ClauseAt) (n : ℕ) : Type 0 where
-  pub there : c .body + c .count ≤ length s
-  pub body : (x : ℕ) → x ∈ part s (c .body) (c .count) → x < n
-  pub head : c .head < n
+pub kept-none : (b : Bool) (old new : List ℕ) → fireAll old (kept b []) new ≡ new
+unfolding kept keep fireAll
+kept-none true old new = refl
+kept-none false old new = refl
 
-pub fires : {s : List ℕ} {p n : ℕ} {c : ClauseAt} → c ≡ clauseAt s p → ClauseFits n s p → Fires s c n
-fires e f = rw e (record { there = f .ends; body = f .body; head = f .head })
-
--- ---- a witness's clauses
-
-module _ (old s : List ℕ) (n p k : ℕ) (new : List ℕ) where
-  pub clauses-none : k ≤ 0 → fireAll old (many (credential n) s p k) new ≡ new
-  unfolding fireAll
-  clauses-none h = ap (λ (P : Policy). fireAll old P new) (many-none (credential n) s p k h)
-
-  pub clauses-on : 0 < k → {c : ClauseAt} {t : List ℕ} → c ≡ clauseAt s p → t ≡ fireOne old (clauseOf s c) new → fireAll old (many (credential n) s p k) new ≡ fireAll old (many (credential n) s (c .next) (k - 1)) t
-  unfolding fireAll
-  clauses-on more e f = rw (f, e) (ap (λ (P : Policy). fireAll old P new) (many-on (credential n) s p k more))
-
--- ---- the dossier's clauses
-
-kept-on : (b : Bool) (m : Marked) (l : List Marked) (old new : List ℕ) → fireAll old (kept b (m ∷ l)) new ≡ fireAll old (kept b l) (choose (b or m .visible) (fireOne old (m .clause) new) new)
-unfolding kept keep put fireAll choose _or_
-kept-on true m l old new = refl
-kept-on false m l old new = go (m .visible)
+pub kept-more : (b : Bool) (old : List ℕ) (m : Marked) (l : List Marked) (new : List ℕ) → fireAll old (kept b (m ∷ l)) new ≡ fireAll old (kept b l) (fireMarked b old m new)
+unfolding kept keep put fireAll fireMarked choose _or_
+kept-more true old m l new = refl
+kept-more false old m l new = go (m .visible)
   where
     go : (v : Bool) → fireAll old (map (λ (x : Marked). x .clause) (put v m (keep (λ (x : Marked). x .visible) l))) new ≡ fireAll old (map (λ (x : Marked). x .clause) (keep (λ (x : Marked). x .visible) l)) (choose v (fireOne old (m .clause) new) new)
     go true = refl
     go false = refl
 
-module _ (b : Bool) (old s : List ℕ) (n p k : ℕ) (new : List ℕ) where
-  pub marked-none : k ≤ 0 → fireAll old (kept b (many (marked n) s p k)) new ≡ new
-  unfolding fireAll kept keep
-  marked-none h = ap (λ (l : List Marked). fireAll old (kept b l) new) (many-none (marked n) s p k h) ∙ empty b
-    where
-      empty : (d : Bool) → fireAll old (kept d []) new ≡ new
-      empty true = refl
-      empty false = refl
+pub marked-length : (b : Bool) (old : List ℕ) (m : Marked) (new : List ℕ) → length (fireMarked b old m new) ≡ length new
+unfolding fireMarked choose
+marked-length b old m new = go (b or m .visible)
+  where
+    go : (v : Bool) → length (choose v (fireOne old (m .clause) new) new) ≡ length new
+    go true = fire-length old (m .clause) new
+    go false = refl
 
-  pub marked-on : 0 < k → {m : MarkedAt} {d : Bool} {t : List ℕ} → m ≡ markedAt s p → d ≡ b or m .visible → t ≡ choose d (fireOne old (clauseOf s (m .clause)) new) new → fireAll old (kept b (many (marked n) s p k)) new ≡ fireAll old (kept b (many (marked n) s (m .clause .next) (k - 1))) t
-  marked-on more {m} e g f =
-      ap (λ (l : List Marked). fireAll old (kept b l) new) (many-on (marked n) s p k more)
-      ∙ kept-on b (markedOf s (markedAt s p)) (many (marked n) s (markedAt s p .clause .next) (k - 1)) old new
-      ∙ (rw (f, g, e))
+-- ---- the loops that fire
 
--- ---- chosen credentials
+-- a way to go over a list with a table: the whole list, and one thing of it
+pub record Fold (A : Type 0) : Type 0 where
+  pub whole : List A → List ℕ → List ℕ
+  pub one : A → List ℕ → List ℕ
+  pub none : (t : List ℕ) → whole [] t ≡ t
+  pub more : (x : A) (l : List A) (t : List ℕ) → whole (x ∷ l) t ≡ whole l (one x t)
+  pub long : (x : A) (t : List ℕ) → length (one x t) ≡ length t
 
--- credential i of the dossier, through the table of starts
-pub record Named (n : ℕ) (d : List ℕ) (p k : ℕ) (table : List ℕ) (i : ℕ) : Type 0 where
-  pub inTable : i < length table
-  pub that : at (many (credential n) d p k) i ≡ some (clauseOf d (clauseAt d (getD table i 0)))
-  pub fits : ClauseFits n d (getD table i 0)
+abbrev pub firing : List ℕ → Fold Clause
+firing old = record { whole = fireAll old; one = fireOne old; none = fireAll-none old; more = fireAll-more old; long = fire-length old }
 
-pub named : (n : ℕ) (d : List ℕ) (p k : ℕ) (table : List ℕ) → Fit (credential n) d p k → Starts (credential n .next d) p k table → (i : ℕ) → i < k → Named n d p k table i
-unfolding Fit
-named n d p k table f s i h =
-    record {
-      inTable = omega (arith, s .long);
-      that = rw (s .each i h) (many-at (credential n) d p k i h);
-      fits = rw (s .each i h) (f i h);
-    }
+abbrev pub keeping : Bool → List ℕ → Fold Marked
+keeping b old = record { whole = λ l. fireAll old (kept b l); one = fireMarked b old; none = kept-none b old; more = kept-more b old; long = marked-length b old }
 
-module _ (cs : List Clause) (old ws : List ℕ) (q k : ℕ) (new : List ℕ) where
-  pub chosen-none : k ≤ 0 → fireAll old (chosen cs (part ws q k)) new ≡ new
-  unfolding fireAll chosen
-  chosen-none h = ap (λ (S : List ℕ). fireAll old (chosen cs S) new) (part-none ws q k h)
+-- going over the k things from p on, on the first table, is going over those that are left, on the table so far
+pub record Left {A : Type 0} (F : Fold A) (K : Kind A) (ws : List ℕ) (p k : ℕ) (first : List ℕ) (here left : ℕ) (t : List ℕ) : Type 0 where
+  pub same : F .whole (many K ws p k) first ≡ F .whole (many K ws here left) t
+  pub fit : Fit K ws here left
+  pub size : length t ≡ length first
 
-  pub chosen-on : 0 < k → q + k ≤ length ws → (x : ℕ) {v : ClauseAt} {t : List ℕ} → at cs (getD ws q 0) ≡ some (clauseOf ws (clauseAt ws x)) → v ≡ clauseAt ws x → t ≡ fireOne old (clauseOf ws v) new → fireAll old (chosen cs (part ws q k)) new ≡ fireAll old (chosen cs (part ws (q + 1) (k - 1))) t
-  unfolding fireAll chosen pick
-  chosen-on more h x e g f = ap (λ (S : List ℕ). fireAll old (chosen cs S) new) (part-cons ws q k more h) ∙ rw (e, f, g)
+module _ {A : Type 0} (F : Fold A) (K : Kind A) (ws : List ℕ) (p k : ℕ) (first : List ℕ) where
+  pub left-all : Fit K ws p k → Left F K ws p k first p k first
+  left-all f = record { same = refl; fit = f; size = refl }
 
--- ---- the policy that is evaluated
+  module _ {here left : ℕ} {t : List ℕ} (l : Left F K ws p k first here left t) where
+    pub left-first : 0 < left → K .ok ws here
+    left-first h = fit-first K ws here left h (l .fit)
 
-pub policy-own : (old d : List ℕ) (c k : ℕ) (w : List ℕ) {which : Which} (new : List ℕ) {t : List ℕ} → which ≡ Own → t ≡ fireAll old (kept true (many (marked (length old)) d c k)) new → t ≡ fireAll old (policyFrom (length old) d c k w which) new
-unfolding policyFrom
-policy-own old d c k w new e f = rw e f
+    pub left-on : 0 < left → {r : ℕ} {u : List ℕ} → r ≡ K .next ws here → u ≡ F .one (K .read ws here) t → Left F K ws p k first r (left - 1) u
+    left-on h {r} {u} e f =
+        record {
+          same = l .same ∙ ap (λ (x : List A). F .whole x t) (many-on K ws here left h) ∙ F .more _ _ t ∙ rw (f, e);
+          fit = rw e (fit-on K ws here left h (l .fit));
+          size = ap length f ∙ F .long _ t ∙ l .size;
+        }
 
-pub policy-tried : (old d : List ℕ) (c k : ℕ) (w : List ℕ) {which : Which} {j : ℕ} (new : List ℕ) {u t : List ℕ} → which ≡ Tried j → u ≡ fireAll old (many (credential (length old)) w 2 j) new → t ≡ fireAll old (kept false (many (marked (length old)) d c k)) u → t ≡ fireAll old (policyFrom (length old) d c k w which) new
-unfolding policyFrom
-policy-tried old d c k w {j = j} new e f g = rw e (g ∙ ap (fireAll old (kept false (many (marked (length old)) d c k))) f ∙ sym (fireAll-append old (many (credential (length old)) w 2 j) (kept false (many (marked (length old)) d c k)) new))
+    pub left-none : left ≤ 0 → t ≡ F .whole (many K ws p k) first
+    left-none h = sym (l .same ∙ ap (λ (x : List A). F .whole x t) (many-none K ws here left h) ∙ F .none t)
 
-pub witness-fits : (n : ℕ) (w : List ℕ) {which : Which} {j : ℕ} → which ≡ Tried j → WhichFits n w which → Fit (credential n) w 2 j
-unfolding WhichFits
-witness-fits n w e f = rw e at f
+-- ---- chosen credentials: those that the numbers name, through the table of where each begins
 
--- the policy, then the chosen credentials: the joined policy
-pub joined-fired : (old d : List ℕ) (c k b m : ℕ) (w : List ℕ) (which : Which) (q l : ℕ) {new u t : List ℕ} → new ≡ old → u ≡ fireAll old (policyFrom (length old) d c k w which) new → t ≡ fireAll old (chosen (many (credential (length old)) d b m) (part d q l)) u
-    → t ≡ fireAll old (joinedFrom (length old) d c k b m w which q l) old
-unfolding joinedFrom joined
-joined-fired old d c k b m w which q l e f g =
-    let P = policyFrom (length old) d c k w which in
-    let S = chosen (many (credential (length old)) d b m) (part d q l) in
-    g ∙ ap (fireAll old S) (f ∙ ap (fireAll old P) e) ∙ sym (ap (λ (Q : Policy). fireAll old (P ++ Q) old) (append-nil S) ∙ fireAll-append old P S old)
+module _ (n : ℕ) (d : List ℕ) (b m : ℕ) (creds : List ℕ) (f : Fit (credential n) d b m) (s : Starts (credential n .next d) b m creds) where
+  one-fits : (p : ℕ) → p < length d → getD d p 0 < m → NamedFits n creds d p
+  unfolding Fit
+  one-fits p h i = record { there = h; listed = omega (arith, s .long); fits = rw (s .each _ i) (f _ i) }
+
+  one-is : (p : ℕ) → getD d p 0 < m → at (many (credential n) d b m) (getD d p 0) ≡ some (clauseOf d (namedAt creds d p))
+  one-is p i = rw (s .each _ i) (many-at (credential n) d b m _ i)
+
+  first-of : (k q : ℕ) → q + suc k ≤ length d → part d q (suc k) ≡ getD d q 0 ∷ part d (q + 1) k
+  first-of k q h = let z : suc k - 1 ≡ k = omega arith in rw z at (part-cons d q (suc k) (omega arith) h)
+
+  abbrev Below : ℕ → ℕ → Type 0
+  Below q k = (x : ℕ) → x ∈ part d q k → x < m
+
+  below-first : (k q : ℕ) → q + suc k ≤ length d → Below q (suc k) → getD d q 0 < m
+  below-first k q h g = g _ (rw (first-of k q h) (List·Memᴰ·head refl))
+
+  below-later : (k q : ℕ) → q + suc k ≤ length d → Below q (suc k) → Below (q + 1) k
+  below-later k q h g x v = g x (rw (first-of k q h) (List·Memᴰ·tail v))
+
+  named-fit : (k q : ℕ) → q + k ≤ length d → Below q k → Fit (named n creds) d q k
+  unfolding Fit place
+  named-fit zero q h g j i = absurd (omega arith)
+  named-fit (suc k) q h g zero i = one-fits q (omega arith) (below-first k q h g)
+  named-fit (suc k) q h g (suc j) i = subst (NamedFits n creds d) (place-next (λ (p : ℕ). p + 1) q j) (named-fit k (q + 1) (omega arith) (below-later k q h g) j (omega arith))
+
+  named-is : (k q : ℕ) → q + k ≤ length d → Below q k → many (named n creds) d q k ≡ chosen (many (credential n) d b m) (part d q k)
+  unfolding many chosen pick
+  named-is zero q h g = sym (ap (chosen (many (credential n) d b m)) (part-none d q 0 (omega arith)))
+  named-is (suc k) q h g =
+      ap (λ (l : Policy). clauseOf d (namedAt creds d q) ∷ l) (named-is k (q + 1) (omega arith) (below-later k q h g))
+      ∙ sym (ap (chosen (many (credential n) d b m)) (first-of k q h) ∙ rw (one-is q (below-first k q h g)))
+
+-- ---- the policy that is evaluated, by the layout; n is the length of the tables
+
+module _ (d : List ℕ) (o : Layout) (w : List ℕ) (which : Which) {n : ℕ} (size : n ≡ o .atoms) where
+  pub own-fits : Fit (marked (o .atoms)) d (o .clauses) (o .nclauses) → (k : ℕ) → k ≤ o .nclauses → Fit (marked n) d (o .clauses) k
+  unfolding Fit
+  own-fits f k h = rw size (λ i g. f i (omega arith))
+
+  pub witness-fits : {j : ℕ} → which ≡ Tried j → WhichFits (o .atoms) w which → Fit (credential n) w 2 j
+  unfolding WhichFits
+  witness-fits e f = rw size (rw e at f)
+
+  module _ (old new : List ℕ) {t : List ℕ} where
+    pub policy-own : which ≡ Own → t ≡ fireAll old (kept true (many (marked n) d (o .clauses) (o .nclauses))) new → t ≡ fireAll old (policyAt d o w which) new
+    unfolding policyAt policy kept dossierAt
+    policy-own e f = rw e (rw size at f)
+
+    pub policy-tried : {j : ℕ} {u : List ℕ} → which ≡ Tried j → u ≡ fireAll old (many (credential n) w 2 j) new → t ≡ fireAll old (kept false (many (marked n) d (o .clauses) (o .nclauses))) u → t ≡ fireAll old (policyAt d o w which) new
+    unfolding policyAt tried visible kept dossierAt
+    policy-tried {j} e f g =
+        let P = many (credential n) w 2 j in
+        let Q = kept false (many (marked n) d (o .clauses) (o .nclauses)) in
+        rw e (rw size at (g ∙ ap (fireAll old Q) f ∙ sym (fireAll-append old P Q new)))
+
+-- a copy, the policy, then the chosen credentials: a round of the joined policy
+module _ (d : List ℕ) (o : Layout) (creds w : List ℕ) (which : Which) (e : EntryAt) (s : Sources d o creds w which e) where
+  pub chosen-fits : {n : ℕ} → n ≡ o .atoms → Fit (named n creds) d (e .creds) (e .count)
+  chosen-fits size = rw size (named-fit (o .atoms) d (o .creds) (o .ncreds) creds (s .ready .laid .creds) (s .ready .starts) (e .count) (e .creds) (s .there) (s .names))
+
+  pub joined-fired : (table : List ℕ) {n : ℕ} {old u t : List ℕ} → n ≡ o .atoms → old ≡ table → u ≡ fireAll old (policyAt d o w which) table → t ≡ fireAll old (many (named n creds) d (e .creds) (e .count)) u → t ≡ fireAll table (joinedAt d o w which e) table
+  unfolding joinedAt joined dossierAt
+  joined-fired table {n} {old} size c f g =
+      let P = policyAt d o w which in
+      let S = chosen (many (credential (o .atoms)) d (o .creds) (o .ncreds)) (part d (e .creds) (e .count)) in
+      let same : many (named n creds) d (e .creds) (e .count) ≡ S = ap (λ (j : ℕ). many (named j creds) d (e .creds) (e .count)) size ∙ named-is (o .atoms) d (o .creds) (o .ncreds) creds (s .ready .laid .creds) (s .ready .starts) (e .count) (e .creds) (s .there) (s .names) in
+      g ∙ rw (same, f, c) (sym (ap (λ (Q : Policy). fireAll table (P ++ Q) table) (append-nil S) ∙ fireAll-append table P S table))
 
 -- ---- whether a table grows
 
@@ -172,18 +229,11 @@ module _ (old new : List ℕ) where
       on : (j : ℕ) → k ≡ suc j → any more (below k) ≡ more j or any more (below j)
       on j z = rw z
 
-  pub grows-yes : (k : ℕ) → 0 < k → getD new (k - 1) 0 ≡ 1 → (getD old (k - 1) 0 ≡ 1 → ⊥) → any more (below k) ≡ true
-  unfolding has _is_ _and_ _or_
-  grows-yes k h e f = grows-step k h ∙ simp (eq-eqb _ _ e, ne-eqb _ _ f)
+  module _ (k : ℕ) (h : 0 < k) {r : Bool} (e : r ≡ more (k - 1)) where
+    pub grows-yes : r ≡ true → any more (below k) ≡ true
+    unfolding _or_
+    grows-yes t = grows-step k h ∙ rw (sym e ∙ t)
 
-  pub grows-old : (k : ℕ) → 0 < k → getD old (k - 1) 0 ≡ 1 → any more (below k) ≡ any more (below (k - 1))
-  unfolding has _is_ _and_ _or_
-  grows-old k h e = grows-step k h ∙ go (eqb (getD new (k - 1) 0) 1)
-    where
-      go : (b : Bool) → (b and not (eqb (getD old (k - 1) 0) 1)) or any more (below (k - 1)) ≡ any more (below (k - 1))
-      go true = simp (eq-eqb _ _ e)
-      go false = refl
-
-  pub grows-not : (k : ℕ) → 0 < k → (getD new (k - 1) 0 ≡ 1 → ⊥) → any more (below k) ≡ any more (below (k - 1))
-  unfolding has _is_ _and_ _or_
-  grows-not k h e = grows-step k h ∙ simp (ne-eqb _ _ e)
+    pub grows-not : r ≡ false → any more (below k) ≡ any more (below (k - 1))
+    unfolding _or_
+    grows-not t = grows-step k h ∙ rw (sym e ∙ t)

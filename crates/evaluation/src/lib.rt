@@ -1,19 +1,21 @@
 // What a policy makes true, on the clauses held as words, and an entry's answer in it.
 use promise::ClauseAt;
+use promise::EntryAt;
 use promise::Layout;
 ghost use mathlib.Core.Path.{_≡_};
-ghost use mathlib.Core.Bool.{not, true};
+ghost use mathlib.Core.Bool.{not, true, false};
 ghost use Prim.Native.Nat.{ℕ, _+_, _≤_, _<_};
-ghost use lib.ListN.{length, replicate};
+ghost use lib.ListN.{length, replicate, set};
 ghost use Rattle.meaning.specs.Tests.{_∈_, _and_, _or_, all, any, choose};
-ghost use Rattle.meaning.specs.Formula.{chosen, read};
+ghost use Rattle.meaning.specs.Formula.{read};
 ghost use Rattle.promise.specs.Place.{part, many, Fit, Starts, filled};
 ghost use Rattle.promise.specs.Formula.{FormulaFits, formulaAt, formulaEnd, EntryFits, entry};
-ghost use Rattle.promise.specs.Clause.{clauseOf, credential, marked};
-ghost use Rattle.evaluation.specs.Table.{has, fireOne, fireAll, rounds, inTable, grown};
-ghost use Rattle.evaluation.specs.Table.{below};
-ghost use Rattle.evaluation.specs.Which.{kept, policyFrom, joinedFrom, WhichFits, Sources, Ready};
-ghost use Rattle.evaluation.specs.Answer.{wordOf, answerOf, answerWord};
+ghost use Rattle.promise.specs.Clause.{clauseAt, clauseOf, ClauseFits, credential, markedAt, markedOf, marked};
+ghost use Rattle.promise.specs.Layout.{Laid};
+ghost use Rattle.evaluation.specs.Table.{has, fireOne, fireAll, rounds, inTable, below, grown};
+ghost use Rattle.evaluation.specs.Which.{kept, fireMarked, Fires, NamedFits, namedAt, named};
+ghost use Rattle.evaluation.specs.Which.{WhichFits, policyAt, joinedAt, Ready, Sources};
+ghost use Rattle.evaluation.specs.Answer.{wordOf, asAnswer, answerOf, answerWord};
 ghost use Rattle.evaluation.specs.declared.Which.the-variants.{Own};
 
 // The policy that is evaluated: the dossier's own, or its visible clauses with the certificate's so many.
@@ -41,6 +43,14 @@ fn both(a: bool, b: bool) -> bool
     if a { b } else { false }
 }
 
+// Whether atom a is in the table.
+fn is_there(table: &[u8], a: usize) -> bool
+    requires { ⌜ a < length (now table) ⌝ }
+    ensures { λ r. ⌜ r ≡ has (now (table .entry)) a ⌝ }
+{
+    table[a] == 1
+}
+
 // Whether each of the k atoms from p on is in the table.
 fn body_holds(s: &[u16], p: usize, k: usize, table: &[u8]) -> bool
     requires { ⌜ (p + k ≤ length (now s)) × ((x : ℕ) → x ∈ part (now s) p k → x < length (now table)) ⌝ }
@@ -49,8 +59,7 @@ fn body_holds(s: &[u16], p: usize, k: usize, table: &[u8]) -> bool
     let mut left = k;
     let mut at = p;
     while 0 < left {
-        let a = promise::word(s, at);
-        if table[a] != 1 {
+        if !is_there(table, promise::word(s, at)) {
             return false;
         }
         at += 1;
@@ -61,7 +70,7 @@ fn body_holds(s: &[u16], p: usize, k: usize, table: &[u8]) -> bool
 
 // The clause adds its head to the new table where the old one has its body.
 fn fire(s: &[u16], c: ClauseAt, old: &[u8], new: &mut [u8])
-    requires { ⌜ (c .body + c .count ≤ length (now s)) × ((x : ℕ) → x ∈ part (now s) (c .body) (c .count) → x < length (now old)) × (c .head < length (now new)) ⌝ }
+    requires { ⌜ Fires (length (now old)) (now s) c × (length (now new) ≡ length (now old)) ⌝ }
     ensures { λ _. ⌜ now (new .exit) ≡ fireOne (now (old .entry)) (clauseOf (now (s .entry)) c) (now (new .entry)) ⌝ }
 {
     let p = c.body;
@@ -74,7 +83,7 @@ fn fire(s: &[u16], c: ClauseAt, old: &[u8], new: &mut [u8])
 
 // The same, if b.
 fn fire_if(s: &[u16], c: ClauseAt, b: bool, old: &[u8], new: &mut [u8])
-    requires { ⌜ (c .body + c .count ≤ length (now s)) × ((x : ℕ) → x ∈ part (now s) (c .body) (c .count) → x < length (now old)) × (c .head < length (now new)) ⌝ }
+    requires { ⌜ Fires (length (now old)) (now s) c × (length (now new) ≡ length (now old)) ⌝ }
     ensures { λ _. ⌜ now (new .exit) ≡ choose b (fireOne (now (old .entry)) (clauseOf (now (s .entry)) c) (now (new .entry))) (now (new .entry)) ⌝ }
 {
     if b {
@@ -82,20 +91,14 @@ fn fire_if(s: &[u16], c: ClauseAt, b: bool, old: &[u8], new: &mut [u8])
     }
 }
 
-// The k clauses of the dossier from p on: all of them, or the visible ones.
-fn fire_marked(s: &[u16], p: usize, k: usize, every: bool, old: &[u8], new: &mut [u8])
-    requires { ⌜ Fit (marked (length (now old))) (now s) p k × (length (now new) ≡ length (now old)) ⌝ }
-    ensures { λ _. ⌜ now (new .exit) ≡ fireAll (now (old .entry)) (kept every (many (marked (length (now (old .entry)))) (now (s .entry)) p k)) (now (new .entry)) ⌝ }
+// Fires the clause at `at`, and answers the place after it.
+fn fire_at(s: &[u16], at: usize, old: &[u8], new: &mut [u8]) -> usize
+    requires { ⌜ ClauseFits (length (now old)) (now s) at × (length (now new) ≡ length (now old)) ⌝ }
+    ensures { λ r. ⌜ (r ≡ clauseAt (now (s .entry)) at .next) × (now (new .exit) ≡ fireOne (now (old .entry)) (clauseOf (now (s .entry)) (clauseAt (now (s .entry)) at)) (now (new .entry))) ⌝ }
 {
-    let mut at = p;
-    let mut left = k;
-    while 0 < left {
-        let m = promise::marked_at(s, at);
-        let c = m.clause;
-        fire_if(s, c, either(every, m.visible), old, new);
-        at = c.next;
-        left -= 1;
-    }
+    let c = promise::clause_at(s, at);
+    fire(s, c, old, new);
+    c.next
 }
 
 // The k clauses of a witness from p on.
@@ -106,44 +109,65 @@ fn fire_clauses(s: &[u16], p: usize, k: usize, old: &[u8], new: &mut [u8])
     let mut at = p;
     let mut left = k;
     while 0 < left {
-        let c = promise::clause_at(s, at);
-        fire(s, c, old, new);
-        at = c.next;
+        at = fire_at(s, at, old, new);
         left -= 1;
     }
 }
 
-// The credentials that the k numbers of the dossier from q on name; its m credentials stand from `base` on.
-fn fire_chosen(
-    d: &[u16],
-    base: usize,
-    m: usize,
-    creds: &[usize],
-    q: usize,
-    k: usize,
-    old: &[u8],
-    new: &mut [u8],
-)
-    requires { ⌜ Fit (credential (length (now old))) (now d) base m × Starts (credential (length (now old)) .next (now d)) base m (now creds)
-        × (q + k ≤ length (now d)) × ((x : ℕ) → x ∈ part (now d) q k → x < m) × (length (now new) ≡ length (now old)) ⌝ }
-    ensures { λ _. ⌜ now (new .exit) ≡ fireAll (now (old .entry)) (chosen (many (credential (length (now (old .entry)))) (now (d .entry)) base m) (part (now (d .entry)) q k)) (now (new .entry)) ⌝ }
+// Fires the dossier's clause at `at` if every clause counts or it is visible, and answers the place after it.
+fn fire_marked_at(s: &[u16], at: usize, every: bool, old: &[u8], new: &mut [u8]) -> usize
+    requires { ⌜ ClauseFits (length (now old)) (now s) (at + 1) × (length (now new) ≡ length (now old)) ⌝ }
+    ensures { λ r. ⌜ (r ≡ markedAt (now (s .entry)) at .clause .next) × (now (new .exit) ≡ fireMarked every (now (old .entry)) (markedOf (now (s .entry)) (markedAt (now (s .entry)) at)) (now (new .entry))) ⌝ }
 {
-    let mut at = q;
+    let m = promise::marked_at(s, at);
+    let c = m.clause;
+    fire_if(s, c, either(every, m.visible), old, new);
+    c.next
+}
+
+// The k clauses of the dossier from p on: all of them, or the visible ones.
+fn fire_marked(s: &[u16], p: usize, k: usize, every: bool, old: &[u8], new: &mut [u8])
+    requires { ⌜ Fit (marked (length (now old))) (now s) p k × (length (now new) ≡ length (now old)) ⌝ }
+    ensures { λ _. ⌜ now (new .exit) ≡ fireAll (now (old .entry)) (kept every (many (marked (length (now (old .entry)))) (now (s .entry)) p k)) (now (new .entry)) ⌝ }
+{
+    let mut at = p;
     let mut left = k;
     while 0 < left {
-        let i = promise::word(d, at);
-        let c = promise::clause_at(d, creds[i]);
-        fire(d, c, old, new);
-        at += 1;
+        at = fire_marked_at(s, at, every, old, new);
+        left -= 1;
+    }
+}
+
+// Fires the credential whose number stands at `at`; `creds` has where each credential begins.
+fn fire_named(d: &[u16], creds: &[usize], at: usize, old: &[u8], new: &mut [u8])
+    requires { ⌜ NamedFits (length (now old)) (now creds) (now d) at × (length (now new) ≡ length (now old)) ⌝ }
+    ensures { λ _. ⌜ now (new .exit) ≡ fireOne (now (old .entry)) (clauseOf (now (d .entry)) (namedAt (now (creds .entry)) (now (d .entry)) at)) (now (new .entry)) ⌝ }
+{
+    let i = promise::word(d, at);
+    fire_at(d, creds[i], old, new);
+}
+
+// The credentials that the k numbers from q on name.
+fn fire_chosen(d: &[u16], creds: &[usize], q: usize, k: usize, old: &[u8], new: &mut [u8])
+    requires { ⌜ Fit (named (length (now old)) (now creds)) (now d) q k × (length (now new) ≡ length (now old)) ⌝ }
+    ensures { λ _. ⌜ now (new .exit) ≡ fireAll (now (old .entry)) (many (named (length (now (old .entry))) (now (creds .entry))) (now (d .entry)) q k) (now (new .entry)) ⌝ }
+{
+    let mut place = q;
+    let mut left = k;
+    while 0 < left {
+        fire_named(d, creds, place, old, new);
+        place += 1;
         left -= 1;
     }
 }
 
 // The clauses of the policy that is evaluated.
-fn fire_policy(d: &[u16], c: usize, k: usize, w: &[u16], which: Which, old: &[u8], new: &mut [u8])
-    requires { ⌜ Fit (marked (length (now old))) (now d) c k × WhichFits (length (now old)) (now w) which × (length (now new) ≡ length (now old)) ⌝ }
-    ensures { λ _. ⌜ now (new .exit) ≡ fireAll (now (old .entry)) (policyFrom (length (now (old .entry))) (now (d .entry)) c k (now (w .entry)) which) (now (new .entry)) ⌝ }
+fn fire_policy(d: &[u16], o: Layout, w: &[u16], which: Which, old: &[u8], new: &mut [u8])
+    requires { ⌜ Laid (now d) o × WhichFits (o .atoms) (now w) which × (length (now old) ≡ o .atoms) × (length (now new) ≡ length (now old)) ⌝ }
+    ensures { λ _. ⌜ now (new .exit) ≡ fireAll (now (old .entry)) (policyAt (now (d .entry)) o (now (w .entry)) which) (now (new .entry)) ⌝ }
 {
+    let c = o.clauses;
+    let k = o.nclauses;
     match which {
         Which::Own => {
             fire_marked(d, c, k, true, old, new);
@@ -167,52 +191,44 @@ fn copy(src: &[u8], dst: &mut [u8])
     }
 }
 
-// One round over the joined policy: from the old table to the new one, which holds the same before.
+// One round over the policy joined with the entry's credentials. It reads the table as it was before, which it copies to `old`.
 fn one_round(
     d: &[u16],
-    c: usize,
-    k: usize,
-    b: usize,
-    m: usize,
+    o: Layout,
     creds: &[usize],
     w: &[u16],
     which: Which,
-    q: usize,
-    l: usize,
-    old: &[u8],
-    new: &mut [u8],
+    e: EntryAt,
+    old: &mut [u8],
+    table: &mut [u8],
 )
-    requires { ⌜ Sources (length (now old)) (now d) c k b m (now creds) (now w) which q l × (now new ≡ now old) ⌝ }
-    ensures { λ _. ⌜ now (new .exit) ≡ fireAll (now (old .entry)) (joinedFrom (length (now (old .entry))) (now (d .entry)) c k b m (now (w .entry)) which q l) (now (old .entry)) ⌝ }
+    requires { ⌜ Sources (now d) o (now creds) (now w) which e × (length (now table) ≡ o .atoms) × (length (now old) ≡ o .atoms) ⌝ }
+    ensures { λ _. ⌜ now (table .exit) ≡ fireAll (now (table .entry)) (joinedAt (now (d .entry)) o (now (w .entry)) which e) (now (table .entry)) ⌝ }
 {
-    fire_policy(d, c, k, w, which, old, new);
-    fire_chosen(d, b, m, creds, q, l, old, new);
+    copy(table, old);
+    fire_policy(d, o, w, which, old, table);
+    fire_chosen(d, creds, e.creds, e.count, old, table);
 }
 
 // So many rounds.
 fn run(
     d: &[u16],
-    c: usize,
-    k: usize,
-    b: usize,
-    m: usize,
+    o: Layout,
     creds: &[usize],
     w: &[u16],
     which: Which,
-    q: usize,
-    l: usize,
+    e: EntryAt,
     times: usize,
     table: &mut [u8],
 )
-    requires { ⌜ Sources (length (now table)) (now d) c k b m (now creds) (now w) which q l × (length (now table) ≤ 64) ⌝ }
-    ensures { λ _. ⌜ now (table .exit) ≡ rounds (joinedFrom (length (now (table .entry))) (now (d .entry)) c k b m (now (w .entry)) which q l) times (now (table .entry)) ⌝ }
+    requires { ⌜ Sources (now d) o (now creds) (now w) which e × (length (now table) ≡ o .atoms) ⌝ }
+    ensures { λ _. ⌜ now (table .exit) ≡ rounds (joinedAt (now (d .entry)) o (now (w .entry)) which e) times (now (table .entry)) ⌝ }
 {
     let mut old = [0u8; 64];
     let n = table.len();
     let mut left = times;
     while 0 < left {
-        copy(table, &mut old[..n]);
-        one_round(d, c, k, b, m, creds, w, which, q, l, &old[..n], table);
+        one_round(d, o, creds, w, which, e, &mut old[..n], table);
         left -= 1;
     }
 }
@@ -224,6 +240,14 @@ fn none() -> [u8; 64]
     [0u8; 64]
 }
 
+// Whether the new table has atom a and the old one lacks it.
+fn is_new(old: &[u8], new: &[u8], a: usize) -> bool
+    requires { ⌜ (a < length (now old)) × (length (now new) ≡ length (now old)) ⌝ }
+    ensures { λ r. ⌜ r ≡ (has (now (new .entry)) a and not (has (now (old .entry)) a)) ⌝ }
+{
+    both(is_there(new, a), !is_there(old, a))
+}
+
 // Whether the new table has an atom that the old one lacks.
 fn grows(old: &[u8], new: &[u8]) -> bool
     requires { ⌜ length (now new) ≡ length (now old) ⌝ }
@@ -231,13 +255,10 @@ fn grows(old: &[u8], new: &[u8]) -> bool
 {
     let mut left = old.len();
     while 0 < left {
-        let a = left - 1;
-        if new[a] == 1 {
-            if old[a] != 1 {
-                return true;
-            }
+        left -= 1;
+        if is_new(old, new, left) {
+            return true;
         }
-        left = a;
     }
     false
 }
@@ -254,25 +275,27 @@ fn truth_at(s: &[u16], at: usize, deep: usize, table: &[u8]) -> Truth
     ensures { λ r. ⌜ (r .holds ≡ read (inTable (now (table .entry))) (formulaAt deep (now (s .entry)) at)) × (r .next ≡ formulaEnd deep (now (s .entry)) at) ⌝ }
 {
     let x = promise::word(s, at);
+    let p = at + 1;
+    let less = deep - 1;
     if x < 256 {
         return Truth {
-            holds: table[x] == 1,
-            next: at + 1,
+            holds: is_there(table, x),
+            next: p,
         };
     }
     if x == 256 {
         return Truth {
             holds: true,
-            next: at + 1,
+            next: p,
         };
     }
-    let f = truth_at(s, at + 1, deep - 1, table);
+    let f = truth_at(s, p, less, table);
     let v = f.holds;
     let h = f.next;
     if x == 257 {
         return Truth { holds: !v, next: h };
     }
-    let g = truth_at(s, h, deep - 1, table);
+    let g = truth_at(s, h, less, table);
     let u = g.holds;
     let z = g.next;
     if x == 258 {
@@ -290,26 +313,29 @@ fn truth_at(s: &[u16], at: usize, deep: usize, table: &[u8]) -> Truth
 // 64 rounds; and whether one more would still add an atom, which is tried on a second table.
 fn settle(
     d: &[u16],
-    c: usize,
-    k: usize,
-    b: usize,
-    m: usize,
+    o: Layout,
     creds: &[usize],
     w: &[u16],
     which: Which,
-    q: usize,
-    l: usize,
+    e: EntryAt,
     table: &mut [u8],
     more: &mut [u8],
 ) -> bool
-    requires { ⌜ Sources (length (now table)) (now d) c k b m (now creds) (now w) which q l × (length (now table) ≤ 64) × (length (now more) ≡ length (now table)) ⌝ }
-    ensures { λ r. ⌜ (now (table .exit) ≡ rounds (joinedFrom (length (now (table .entry))) (now (d .entry)) c k b m (now (w .entry)) which q l) 64 (now (table .entry)))
-        × (r ≡ grown (joinedFrom (length (now (table .entry))) (now (d .entry)) c k b m (now (w .entry)) which q l) (now (table .entry))) ⌝ }
+    requires { ⌜ Sources (now d) o (now creds) (now w) which e × (length (now table) ≡ o .atoms) × (length (now more) ≡ o .atoms) ⌝ }
+    ensures { λ r. ⌜ (now (table .exit) ≡ rounds (joinedAt (now (d .entry)) o (now (w .entry)) which e) 64 (now (table .entry)))
+        × (r ≡ grown (joinedAt (now (d .entry)) o (now (w .entry)) which e) (now (table .entry))) ⌝ }
 {
-    run(d, c, k, b, m, creds, w, which, q, l, 64, table);
+    run(d, o, creds, w, which, e, 64, table);
     copy(table, more);
-    run(d, c, k, b, m, creds, w, which, q, l, 1, more);
+    run(d, o, creds, w, which, e, 1, more);
     grows(table, more)
+}
+
+// A truth as an answer.
+fn yes_or_no(b: bool) -> Answer
+    ensures { λ r. ⌜ r ≡ asAnswer false b ⌝ }
+{
+    if b { Answer::Yes } else { Answer::No }
 }
 
 // The answer of the entry at p in a policy; or that 64 rounds were not enough.
@@ -318,30 +344,15 @@ pub fn answer_at(d: &[u16], o: Layout, creds: &[usize], w: &[u16], which: Which,
     ensures { λ r. ⌜ r ≡ answerOf (now (d .entry)) o (now (w .entry)) which p ⌝ }
 {
     let e = promise::entry_at(d, p);
-    let q = e.creds;
-    let l = e.count;
     let f = e.formula;
     let n = o.atoms;
     let mut table = none();
     let mut more = none();
-    if settle(
-        d,
-        o.clauses,
-        o.nclauses,
-        o.creds,
-        o.ncreds,
-        creds,
-        w,
-        which,
-        q,
-        l,
-        &mut table[..n],
-        &mut more[..n],
-    ) {
+    if settle(d, o, creds, w, which, e, &mut table[..n], &mut more[..n]) {
         return Answer::Unsettled;
     }
     let v = truth_at(d, f, 16, &table[..n]);
-    if v.holds { Answer::Yes } else { Answer::No }
+    yes_or_no(v.holds)
 }
 
 // An answer as a word: 0, 1, or 2 where there is none.
@@ -353,6 +364,28 @@ pub fn word_of(a: Answer) -> u16
         Answer::Yes => 1,
         Answer::Unsettled => 2,
     }
+}
+
+// Writes probe i's answer in the dossier's own policy to the table, in its place. The answer is whether 64 rounds were enough.
+fn answer_probe(
+    d: &[u16],
+    o: Layout,
+    creds: &[usize],
+    probes: &[usize],
+    w: &[u16],
+    i: usize,
+    table: &mut [u16],
+) -> bool
+    requires { ⌜ Ready (now d) o (now creds) (now w) Own × Starts (entry (o .atoms) (o .ncreds) .next (now d)) (o .probes) (o .nprobes) (now probes) × (i < o .nprobes) × (i < length (now table)) ⌝ }
+    ensures { λ r. ⌜ (r ≡ true) × (now (table .exit) ≡ set (now (table .entry)) i (answerWord (now (d .entry)) o i)) ⌝ }
+{
+    let a = answer_at(d, o, creds, w, Which::Own, probes[i]);
+    let x = word_of(a);
+    if x == 2 {
+        return false;
+    }
+    table[i] = x;
+    true
 }
 
 // Every probe's answer in the dossier's own policy, 0 or 1, from the table's start; the words beyond stay. The answer is whether 64 rounds were enough each time.
@@ -370,12 +403,9 @@ pub fn answers(
     let n = o.nprobes;
     let mut i = 0;
     while i < n {
-        let a = answer_at(d, o, creds, w, Which::Own, probes[i]);
-        let x = word_of(a);
-        if x == 2 {
+        if !answer_probe(d, o, creds, probes, w, i, table) {
             return false;
         }
-        table[i] = x;
         i += 1;
     }
     true

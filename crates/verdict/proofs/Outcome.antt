@@ -2,7 +2,10 @@
 use Prim.Native.Nat.{ℕ, _-_, _<_, _≤_}
 use mathlib.Core.Path.{_≡_, refl, sym, ap, _∙_}
 use mathlib.Core.Bool.{Bool, true, false, not}
-use mathlib.Core.List.{List}
+use mathlib.Core.List.{List, [], _∷_}
+use mathlib.Core.Logic.{inl, inr}
+use types.Run.{OneOf}
+use denote.Enum.Declared.{tagOf}
 use mathlib.Core.Option.{Option, none, some}
 use native.Mathlib.Omega.{arith}
 use lib.ListN.{length, getD}
@@ -31,8 +34,9 @@ use Rattle.evaluation.specs.declared.Answer.{Answer}
 use Rattle.evaluation.specs.declared.Answer.the-variants.{No, Yes, Unsettled}
 use Rattle.evaluation.specs.declared.Which.the-variants.{Tried}
 use Rattle.evaluation.proofs.Entry.{answer-sure}
-use Rattle.verdict.specs.Told.{showing, replyAt, asFault, ProbeStarts}
+use Rattle.verdict.specs.Told.{showing, replyAt, asFault, faultAt, ProbeStarts}
 use Rattle.verdict.specs.declared.Fault.{Fault}
+use Rattle.verdict.proofs.Fault.{the-type}
 use Rattle.verdict.specs.declared.Fault.the-variants as fault
 use Rattle.verdict.proofs.Lowest.{lowest-below}
 
@@ -70,6 +74,30 @@ module _ {x : Option ℕ} {f : Fault} (e : f ≡ asFault x) where
   pub fault-none : f ≡ fault.Nowhere → x ≡ none
   unfolding found
   fault-none h = sym (found-back x) ∙ ap found (sym e ∙ h)
+
+-- what one test answers: nowhere, or else that number
+module _ (b : Bool) (j : ℕ) {f : Fault} (e : f ≡ faultAt b j) where
+  pub test-passed : f ≡ fault.Nowhere → b ≡ true
+  unfolding faultAt kind
+  test-passed h = go b (sym e ∙ h)
+    where
+      go : (c : Bool) → faultAt c j ≡ fault.Nowhere → c ≡ true
+      go true g = refl
+      go false g = absurd (let z : _≡_ {A = ℕ} 1 0 = ap kind g in omega arith)
+
+  pub test-failed : OneOf (1 ∷ 2 ∷ []) (tagOf the-type f) → b ≡ false
+  unfolding faultAt
+  test-failed h = go b (ap (tagOf the-type) e) h
+    where
+      go : (c : Bool) → tagOf the-type f ≡ tagOf the-type (faultAt c j) → OneOf (1 ∷ 2 ∷ []) (tagOf the-type f) → c ≡ false
+      go true g (inl x) = absurd (omega (arith, g))
+      go true g (inr x) = absurd (omega (arith, g))
+      go false g x = refl
+
+  -- so the search ends here
+  pub failed-here : {x : Option ℕ} → b ≡ false → x ≡ some j → f ≡ asFault x
+  unfolding faultAt asFault
+  failed-here g h = e ∙ rw (g, h)
 
 -- ---- a witness
 

@@ -1,6 +1,7 @@
 -- The reply for an outcome, and what judging needs to have been found.
 use Prim.Native.Nat.{ℕ, _-_, _<_, _≤_}
 use mathlib.Core.Path.{_≡_}
+use mathlib.Core.Bool.{Bool, true, false}
 use mathlib.Core.List.{List}
 use mathlib.Core.Option.{Option, none, some}
 use lib.ListN.{length, getD}
@@ -44,6 +45,11 @@ sizeOf (Proof k) = k
 unfoldable pub asFault : Option ℕ → Fault
 asFault none = fault.Nowhere
 asFault (some j) = fault.At j
+
+-- whether number j is at fault, by its test
+unfoldable pub faultAt : Bool → ℕ → Fault
+faultAt true j = fault.Nowhere
+faultAt false j = fault.At j
 
 -- a table of where each probe begins, and one with the policy's answer to each
 abbrev pub ProbeStarts : List ℕ → Layout → List ℕ → Type 0

@@ -9,7 +9,7 @@ use reply::Reply;
 use reply::Verdict;
 ghost use mathlib.Core.Path.{_≡_};
 ghost use mathlib.Core.Bool.{not};
-ghost use Prim.Native.Nat.{_≤_, _-_};
+ghost use Prim.Native.Nat.{_≤_, _<_, _-_};
 ghost use Rattle.meaning.specs.Tests.{_is_, agree, choose, lowest};
 ghost use Rattle.meaning.specs.Looks.{aim};
 ghost use Rattle.meaning.specs.Papers as papers;
@@ -27,7 +27,7 @@ ghost use Rattle.evaluation.specs.declared.Which.the-variants.{Tried};
 ghost use Rattle.reply.specs.Answer.{accepted, refused};
 ghost use Rattle.reply.specs.declared.Paper.the-variants as paper;
 ghost use Rattle.reply.specs.declared.Verdict.the-variants as verdict;
-ghost use Rattle.verdict.specs.Told.{showing, replyAt, sizeOf, asFault, ProbeStarts, Told};
+ghost use Rattle.verdict.specs.Told.{showing, replyAt, sizeOf, asFault, faultAt, ProbeStarts, Told};
 
 // The lowest number at fault, if there is one; or that 64 rounds were not enough.
 pub enum Fault {
@@ -74,6 +74,31 @@ fn refusing(number: u16, paper: Paper, thing: Thing, s: &[u16], p: usize) -> Rep
     }
 }
 
+// Whether the policy tried answers probe i as the dossier's does, which `told` has.
+fn probe_fault(
+    d: &[u16],
+    o: Layout,
+    creds: &[usize],
+    probes: &[usize],
+    told: &[u16],
+    w: &[u16],
+    k: usize,
+    i: usize,
+) -> Fault
+    requires { ⌜ Ready (now d) o (now creds) (now w) (Tried k) × ProbeStarts (now d) o (now probes) × Told (now d) o (now told) × (i < o .nprobes) ⌝ }
+    ensures { λ r. ⌜ r ≡ faultAt (meant.probeAgrees (dossierAt (now (d .entry)) o) (many (credential (o .atoms)) (now (w .entry)) 2 k) i) i ⌝ }
+{
+    let a = evaluation::answer_at(d, o, creds, w, Which::Tried(k), probes[i]);
+    let x = evaluation::word_of(a);
+    if x == 2 {
+        return Fault::Unsettled;
+    }
+    if x != told[i] {
+        return Fault::At(i);
+    }
+    Fault::Nowhere
+}
+
 // The lowest probe that the policy tried does not answer as the dossier's does.
 fn first_differing(
     d: &[u16],
@@ -90,14 +115,10 @@ fn first_differing(
     let n = o.nprobes;
     let mut i = 0;
     while i < n {
-        let a = evaluation::answer_at(d, o, creds, w, Which::Tried(k), probes[i]);
-        let x = evaluation::word_of(a);
-        if x == 2 {
-            return Fault::Unsettled;
-        }
-        if x != told[i] {
-            return Fault::At(i);
-        }
+        let f = probe_fault(d, o, creds, probes, told, w, k, i);
+        let Fault::Nowhere = f else {
+            return f;
+        };
         i += 1;
     }
     Fault::Nowhere
@@ -153,12 +174,12 @@ fn first_failing(
     requires { ⌜ rules.Ready (now d) o (now clauses) (now creds) (now probes) (now told) × rules.LineStarts (now s) k (now lines) × Fit line (now s) 2 k ⌝ }
     ensures { λ r. ⌜ r ≡ asFault (lowest (lineFollows (dossierAt (now (d .entry)) o) (many line (now (s .entry)) 2 k)) 0 k) ⌝ }
 {
-    let mut i = 0;
-    while i < k {
-        if !lines::line_follows(d, o, clauses, creds, probes, told, s, lines, i, lines[i]) {
-            return Fault::At(i);
+    let mut j = 0;
+    while j < k {
+        if !lines::line_follows(d, o, clauses, creds, probes, told, s, lines, j, lines[j]) {
+            return Fault::At(j);
         }
-        i += 1;
+        j += 1;
     }
     Fault::Nowhere
 }
@@ -218,14 +239,15 @@ fn judge_lines(
     judge_proof(d, o, &clauses, creds, probes, told, s, &lines, k)
 }
 
-// The judgement of two sound papers: d has the layout o, and c has that proposal.
+// The judgement of two sound papers: d has the layout o, and c has that proposal. `told` is blank, then has the dossier's answers.
 pub fn judge_sound(d: &[u16], o: Layout, c: &[u16], proposal: Proposal) -> Reply
     requires { ⌜ Laid (now d) o × Proposed (o .atoms) (now c) proposal ⌝ }
     ensures { λ r. ⌜ r ≡ replyAt (now (d .entry)) o (now (c .entry)) (sizeOf proposal) (meant.judge (dossierAt (now (d .entry)) o) (certificateAt (o .atoms) (now (c .entry)) proposal)) ⌝ }
 {
     let mut creds = [0usize; 32];
     let mut probes = [0usize; 64];
-    let mut told = [0u16; 64];
+    let blank = [0u16; 64];
+    let mut told = blank;
     promise::starts(d, o.creds, o.ncreds, Thing::Credential, &mut creds);
     promise::starts(d, o.probes, o.nprobes, Thing::Entry, &mut probes);
     if !evaluation::answers(d, o, &creds, &probes, c, &mut told) {

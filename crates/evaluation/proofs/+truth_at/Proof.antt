@@ -2,7 +2,6 @@
 use lib.ListN.{length}
 use Prim.Native.Nat.{_-_}
 use mathlib.Core.Path.{subst}
-use Rattle.evaluation.proofs.Firing.{has-word}
 use Rattle.promise.specs.Formula.{FormulaFits}
 use Rattle.promise.proofs.Formula.{deep, fits-here, fits-atom, fits-one, fits-two, read-atom, read-true, read-not, read-and, read-or}
 use Rattle.evaluation.specs.Table.{inTable}
@@ -19,6 +18,7 @@ use Rattle.evaluation.proofs.+truth_at.{statement}
 use Rattle.evaluation.proofs.+truth_at.Tie.{close}
 use Rattle.evaluation.proofs.both.Reads as both-reads
 use Rattle.evaluation.proofs.either.Reads as either-reads
+use Rattle.evaluation.proofs.is_there.Reads as is-there-reads
 use Rattle.promise.proofs.word.Reads as word-reads
 
 abbrev μ : Measures 2 kinds.ps ℕ
@@ -30,106 +30,99 @@ at t = and 2 kinds.ps (is 2 kinds.ps μ t) f.Pre
 abbrev below : ℕ → In 2 kinds.ps
 below t = and 2 kinds.ps (falls 2 kinds.ps _<_ μ t) f.Pre
 
-word-requires : (t : ℕ) → lts.Need-word-requires (word-reads.Asked, word-reads.Learnt, below t, f.Post, both-reads.Asked, both-reads.Learnt, either-reads.Asked, either-reads.Learnt) (at t) f.Post
+word-requires : (t : ℕ) → lts.Need-word-requires (word-reads.Asked, word-reads.Learnt, is-there-reads.Asked, is-there-reads.Learnt, below t, f.Post, both-reads.Asked, both-reads.Learnt, either-reads.Asked, either-reads.Learnt) (at t) f.Post
 word-requires t c κs =
-    let a = c .before .before .args in
-    fits-here (length (a .table .now)) (a .deep) (a .s .now) (a .at) (c .before .before .pre .1)
+    let start = c .before .before in
+    let a = start .args in
+    fits-here (length (a .table .now)) (a .deep) (a .s .now) (a .at) (start .pre .1)
 
-shared-slice-read-t14 : (t : ℕ) → lts.Need-shared-slice-read-t14 (word-reads.Asked, word-reads.Learnt, below t, f.Post, both-reads.Asked, both-reads.Learnt, either-reads.Asked, either-reads.Learnt) (at t) f.Post
-shared-slice-read-t14 t c =
-    let a = c .before .before .before .before .before .args in
-    fits-atom (length (a .table .now)) (a .deep) (a .s .now) (a .at) (c .before .before .before .before .before .pre .1) (c .before .before .word .ensures .0) (c .before .if1 .taken)
+add-p : (t : ℕ) → lts.Need-add-p (word-reads.Asked, word-reads.Learnt, is-there-reads.Asked, is-there-reads.Learnt, below t, f.Post, both-reads.Asked, both-reads.Learnt, either-reads.Asked, either-reads.Learnt) (at t) f.Post
+add-p t c =
+    let start = c .before .before .before in
+    let a = start .args in
+    omega (arith, fits-here (length (a .table .now)) (a .deep) (a .s .now) (a .at) (start .pre .1))
 
-add-t16 : (t : ℕ) → lts.Need-add-t16 (word-reads.Asked, word-reads.Learnt, below t, f.Post, both-reads.Asked, both-reads.Learnt, either-reads.Asked, either-reads.Learnt) (at t) f.Post
-add-t16 t c =
-    let a = c .before .before .before .before .before .args in
-    omega (arith, fits-here (length (a .table .now)) (a .deep) (a .s .now) (a .at) (c .before .before .before .before .before .pre .1))
+sub-less : (t : ℕ) → lts.Need-sub-less (word-reads.Asked, word-reads.Learnt, is-there-reads.Asked, is-there-reads.Learnt, below t, f.Post, both-reads.Asked, both-reads.Learnt, either-reads.Asked, either-reads.Learnt) (at t) f.Post
+sub-less t c =
+    let start = c .before .before .before in
+    let a = start .args in
+    omega (arith, deep (length (a .table .now)) (a .deep) (a .s .now) (a .at) (start .pre .1))
 
-returns : (t : ℕ) → lts.Need-returns (word-reads.Asked, word-reads.Learnt, below t, f.Post, both-reads.Asked, both-reads.Learnt, either-reads.Asked, either-reads.Learnt) (at t) f.Post
+is-there-requires : (t : ℕ) → lts.Need-is-there-requires (word-reads.Asked, word-reads.Learnt, is-there-reads.Asked, is-there-reads.Learnt, below t, f.Post, both-reads.Asked, both-reads.Learnt, either-reads.Asked, either-reads.Learnt) (at t) f.Post
+is-there-requires t c κs =
+    let start = c .before .before .before .before in
+    let a = start .args in
+    fits-atom (length (a .table .now)) (a .deep) (a .s .now) (a .at) (start .pre .1) (c .before .word .ensures .0) (c .if1 .taken)
+
+returns : (t : ℕ) → lts.Need-returns (word-reads.Asked, word-reads.Learnt, is-there-reads.Asked, is-there-reads.Learnt, below t, f.Post, both-reads.Asked, both-reads.Learnt, either-reads.Asked, either-reads.Learnt) (at t) f.Post
 unfolding inTable
 returns t c =
-    let a = c .before .before .before .before .before .args in
-    let r = read-atom (length (a .table .now)) (a .deep) (a .s .now) (a .at) (c .before .before .before .before .before .pre .1) (c .before .before .word .ensures .0) (inTable (a .table .now)) (c .before .if1 .taken) in
-    (has-word (a .table .now) _ ∙ r .0, r .1)
+    let start = c .before .before .before .before .before in
+    let a = start .args in
+    let r = read-atom (length (a .table .now)) (a .deep) (a .s .now) (a .at) (start .pre .1) (c .before .before .word .ensures .0) (inTable (a .table .now)) (c .before .if1 .taken) in
+    (c .is-there .ensures ∙ r .0, r .1)
 
-add-t17 : (t : ℕ) → lts.Need-add-t17 (word-reads.Asked, word-reads.Learnt, below t, f.Post, both-reads.Asked, both-reads.Learnt, either-reads.Asked, either-reads.Learnt) (at t) f.Post
-add-t17 t c =
-    let a = c .before .before .before .before .before .args in
-    omega (arith, fits-here (length (a .table .now)) (a .deep) (a .s .now) (a .at) (c .before .before .before .before .before .pre .1))
-
-returns-2 : (t : ℕ) → lts.Need-returns-2 (word-reads.Asked, word-reads.Learnt, below t, f.Post, both-reads.Asked, both-reads.Learnt, either-reads.Asked, either-reads.Learnt) (at t) f.Post
+returns-2 : (t : ℕ) → lts.Need-returns-2 (word-reads.Asked, word-reads.Learnt, is-there-reads.Asked, is-there-reads.Learnt, below t, f.Post, both-reads.Asked, both-reads.Learnt, either-reads.Asked, either-reads.Learnt) (at t) f.Post
 unfolding inTable
 returns-2 t c =
-    let a = c .before .before .before .before .before .args in
-    read-true (length (a .table .now)) (a .deep) (a .s .now) (a .at) (c .before .before .before .before .before .pre .1) (c .before .before .word .ensures .0) (inTable (a .table .now)) (c .if2 .taken)
+    let start = c .before .before .before .before .before in
+    let a = start .args in
+    read-true (length (a .table .now)) (a .deep) (a .s .now) (a .at) (start .pre .1) (c .before .before .word .ensures .0) (inTable (a .table .now)) (c .if2 .taken)
 
-add-truth-at : (t : ℕ) → lts.Need-add-truth-at (word-reads.Asked, word-reads.Learnt, below t, f.Post, both-reads.Asked, both-reads.Learnt, either-reads.Asked, either-reads.Learnt) (at t) f.Post
-add-truth-at t c =
-    let a = c .before .before .before .before .before .args in
-    omega (arith, fits-here (length (a .table .now)) (a .deep) (a .s .now) (a .at) (c .before .before .before .before .before .pre .1))
-
-sub-truth-at : (t : ℕ) → lts.Need-sub-truth-at (word-reads.Asked, word-reads.Learnt, below t, f.Post, both-reads.Asked, both-reads.Learnt, either-reads.Asked, either-reads.Learnt) (at t) f.Post
-sub-truth-at t c =
-    let a = c .before .before .before .before .before .args in
-    omega (arith, deep (length (a .table .now)) (a .deep) (a .s .now) (a .at) (c .before .before .before .before .before .pre .1))
-
-truth-at-requires : (t : ℕ) → lts.Need-truth-at-requires (word-reads.Asked, word-reads.Learnt, below t, f.Post, both-reads.Asked, both-reads.Learnt, either-reads.Asked, either-reads.Learnt) (at t) f.Post
+truth-at-requires : (t : ℕ) → lts.Need-truth-at-requires (word-reads.Asked, word-reads.Learnt, is-there-reads.Asked, is-there-reads.Learnt, below t, f.Post, both-reads.Asked, both-reads.Learnt, either-reads.Asked, either-reads.Learnt) (at t) f.Post
 truth-at-requires t c κs =
-    let a = c .before .before .before .before .before .args in
-    (omega (arith, c .before .before .before .before .before .pre .0, deep (length (a .table .now)) (a .deep) (a .s .now) (a .at) (c .before .before .before .before .before .pre .1)), fits-one (length (a .table .now)) (a .deep) (a .s .now) (a .at) (c .before .before .before .before .before .pre .1) (c .before .before .word .ensures .0) (omega arith))
+    let start = c .before .before .before .before .before in
+    let a = start .args in
+    (omega (arith, start .pre .0, deep (length (a .table .now)) (a .deep) (a .s .now) (a .at) (start .pre .1)), fits-one (length (a .table .now)) (a .deep) (a .s .now) (a .at) (start .pre .1) (c .before .before .word .ensures .0) (omega arith))
 
-returns-3 : (t : ℕ) → lts.Need-returns-3 (word-reads.Asked, word-reads.Learnt, below t, f.Post, both-reads.Asked, both-reads.Learnt, either-reads.Asked, either-reads.Learnt) (at t) f.Post
+returns-3 : (t : ℕ) → lts.Need-returns-3 (word-reads.Asked, word-reads.Learnt, is-there-reads.Asked, is-there-reads.Learnt, below t, f.Post, both-reads.Asked, both-reads.Learnt, either-reads.Asked, either-reads.Learnt) (at t) f.Post
 unfolding inTable
 returns-3 t c =
-    let a = c .before .before .before .before .before .before .before .args in
-    read-not (length (a .table .now)) (a .deep) (a .s .now) (a .at) (c .before .before .before .before .before .before .before .pre .1) (c .before .before .before .before .word .ensures .0) (inTable (a .table .now)) (c .before .truth-at .ensures .0) (c .before .truth-at .ensures .1) (c .if3 .taken)
+    let start = c .before .before .before .before .before .before .before in
+    let a = start .args in
+    read-not (length (a .table .now)) (a .deep) (a .s .now) (a .at) (start .pre .1) (c .before .before .before .before .word .ensures .0) (inTable (a .table .now)) (c .before .truth-at .ensures .0) (c .before .truth-at .ensures .1) (c .if3 .taken)
 
-sub-truth-at-2 : (t : ℕ) → lts.Need-sub-truth-at-2 (word-reads.Asked, word-reads.Learnt, below t, f.Post, both-reads.Asked, both-reads.Learnt, either-reads.Asked, either-reads.Learnt) (at t) f.Post
-sub-truth-at-2 t c =
-    let a = c .before .before .before .before .before .before .before .args in
-    omega (arith, deep (length (a .table .now)) (a .deep) (a .s .now) (a .at) (c .before .before .before .before .before .before .before .pre .1))
-
-truth-at-requires-2 : (t : ℕ) → lts.Need-truth-at-requires-2 (word-reads.Asked, word-reads.Learnt, below t, f.Post, both-reads.Asked, both-reads.Learnt, either-reads.Asked, either-reads.Learnt) (at t) f.Post
+truth-at-requires-2 : (t : ℕ) → lts.Need-truth-at-requires-2 (word-reads.Asked, word-reads.Learnt, is-there-reads.Asked, is-there-reads.Learnt, below t, f.Post, both-reads.Asked, both-reads.Learnt, either-reads.Asked, either-reads.Learnt) (at t) f.Post
 truth-at-requires-2 t c κs =
-    let a = c .before .before .before .before .before .before .before .args in
+    let start = c .before .before .before .before .before .before .before in
+    let a = start .args in
     let x : 257 < c .before .before .before .before .word .result = omega arith in
-    (omega (arith, c .before .before .before .before .before .before .before .pre .0, deep (length (a .table .now)) (a .deep) (a .s .now) (a .at) (c .before .before .before .before .before .before .before .pre .1)), subst (λ (q : ℕ). FormulaFits (length (a .table .now)) (a .deep - 1) (a .s .now) q) (sym (c .before .truth-at .ensures .1)) (fits-two (length (a .table .now)) (a .deep) (a .s .now) (a .at) (c .before .before .before .before .before .before .before .pre .1) (c .before .before .before .before .word .ensures .0) x))
+    (omega (arith, start .pre .0, deep (length (a .table .now)) (a .deep) (a .s .now) (a .at) (start .pre .1)), subst (λ (q : ℕ). FormulaFits (length (a .table .now)) (a .deep - 1) (a .s .now) q) (sym (c .before .truth-at .ensures .1)) (fits-two (length (a .table .now)) (a .deep) (a .s .now) (a .at) (start .pre .1) (c .before .before .before .before .word .ensures .0) x))
 
-both-requires : (t : ℕ) → lts.Need-both-requires (word-reads.Asked, word-reads.Learnt, below t, f.Post, both-reads.Asked, both-reads.Learnt, either-reads.Asked, either-reads.Learnt) (at t) f.Post
+both-requires : (t : ℕ) → lts.Need-both-requires (word-reads.Asked, word-reads.Learnt, is-there-reads.Asked, is-there-reads.Learnt, below t, f.Post, both-reads.Asked, both-reads.Learnt, either-reads.Asked, either-reads.Learnt) (at t) f.Post
 both-requires t c κs = search needs
 
-returns-4 : (t : ℕ) → lts.Need-returns-4 (word-reads.Asked, word-reads.Learnt, below t, f.Post, both-reads.Asked, both-reads.Learnt, either-reads.Asked, either-reads.Learnt) (at t) f.Post
+returns-4 : (t : ℕ) → lts.Need-returns-4 (word-reads.Asked, word-reads.Learnt, is-there-reads.Asked, is-there-reads.Learnt, below t, f.Post, both-reads.Asked, both-reads.Learnt, either-reads.Asked, either-reads.Learnt) (at t) f.Post
 unfolding inTable
 returns-4 t c =
-    let a = c .before .before .before .before .before .before .before .before .before .before .args in
+    let start = c .before .before .before .before .before .before .before .before .before .before in
+    let a = start .args in
     let x : 257 < c .before .before .before .before .before .before .before .word .result = omega arith in
-    let r = read-and (length (a .table .now)) (a .deep) (a .s .now) (a .at) (c .before .before .before .before .before .before .before .before .before .before .pre .1) (c .before .before .before .before .before .before .before .word .ensures .0) (inTable (a .table .now)) (c .before .before .before .before .truth-at .ensures .0) (c .before .before .before .before .truth-at .ensures .1) (c .before .before .truth-at2 .ensures .0) (c .before .before .truth-at2 .ensures .1) x (c .before .if4 .taken) in
+    let r = read-and (length (a .table .now)) (a .deep) (a .s .now) (a .at) (start .pre .1) (c .before .before .before .before .before .before .before .word .ensures .0) (inTable (a .table .now)) (c .before .before .before .before .truth-at .ensures .0) (c .before .before .before .before .truth-at .ensures .1) (c .before .before .truth-at2 .ensures .0) (c .before .before .truth-at2 .ensures .1) x (c .before .if4 .taken) in
     (c .both .ensures ∙ r .0, r .1)
 
-either-requires : (t : ℕ) → lts.Need-either-requires (word-reads.Asked, word-reads.Learnt, below t, f.Post, both-reads.Asked, both-reads.Learnt, either-reads.Asked, either-reads.Learnt) (at t) f.Post
+either-requires : (t : ℕ) → lts.Need-either-requires (word-reads.Asked, word-reads.Learnt, is-there-reads.Asked, is-there-reads.Learnt, below t, f.Post, both-reads.Asked, both-reads.Learnt, either-reads.Asked, either-reads.Learnt) (at t) f.Post
 either-requires t c κs = search needs
 
-returns-5 : (t : ℕ) → lts.Need-returns-5 (word-reads.Asked, word-reads.Learnt, below t, f.Post, both-reads.Asked, both-reads.Learnt, either-reads.Asked, either-reads.Learnt) (at t) f.Post
+returns-5 : (t : ℕ) → lts.Need-returns-5 (word-reads.Asked, word-reads.Learnt, is-there-reads.Asked, is-there-reads.Learnt, below t, f.Post, both-reads.Asked, both-reads.Learnt, either-reads.Asked, either-reads.Learnt) (at t) f.Post
 unfolding inTable
 returns-5 t c =
-    let a = c .before .before .before .before .before .before .before .before .before .before .args in
+    let start = c .before .before .before .before .before .before .before .before .before .before in
+    let a = start .args in
     let x : 257 < c .before .before .before .before .before .before .before .word .result = omega arith in
-    let r = read-or (length (a .table .now)) (a .deep) (a .s .now) (a .at) (c .before .before .before .before .before .before .before .before .before .before .pre .1) (c .before .before .before .before .before .before .before .word .ensures .0) (inTable (a .table .now)) (c .before .before .before .before .truth-at .ensures .0) (c .before .before .before .before .truth-at .ensures .1) (c .before .before .truth-at2 .ensures .0) (c .before .before .truth-at2 .ensures .1) x (c .before .if4 .left) in
+    let r = read-or (length (a .table .now)) (a .deep) (a .s .now) (a .at) (start .pre .1) (c .before .before .before .before .before .before .before .word .ensures .0) (inTable (a .table .now)) (c .before .before .before .before .truth-at .ensures .0) (c .before .before .before .before .truth-at .ensures .1) (c .before .before .truth-at2 .ensures .0) (c .before .before .truth-at2 .ensures .1) x (c .before .if4 .left) in
     (c .either .ensures ∙ r .0, r .1)
 
 pub +truth-at-spec : {M : Type 1} → statement M
-+truth-at-spec = close μ λ t. lts.spec (word-reads.Asked, word-reads.Learnt, below t, f.Post, both-reads.Asked, both-reads.Learnt, either-reads.Asked, either-reads.Learnt) (at t) f.Post
++truth-at-spec = close μ λ t. lts.spec (word-reads.Asked, word-reads.Learnt, is-there-reads.Asked, is-there-reads.Learnt, below t, f.Post, both-reads.Asked, both-reads.Learnt, either-reads.Asked, either-reads.Learnt) (at t) f.Post
     (word-requires t)
-    (shared-slice-read-t14 t)
-    (add-t16 t)
+    (add-p t)
+    (sub-less t)
+    (is-there-requires t)
     (returns t)
-    (add-t17 t)
     (returns-2 t)
-    (add-truth-at t)
-    (sub-truth-at t)
     (truth-at-requires t)
     (returns-3 t)
-    (sub-truth-at-2 t)
     (truth-at-requires-2 t)
     (both-requires t)
     (returns-4 t)

@@ -1,12 +1,13 @@
 -- `evaluation::answers` meets its contract. The invariant: the table has the answers of the probes passed, and is as it was from there on.
-use Prim.Native.Nat.{ℕ, _≤_, _-_}
-use Rattle.evaluation.proofs.Entry.{probe-word, probe-fits, word-sure}
+use Prim.Native.Nat.{ℕ, _≤_, _<_, _-_}
 use Rattle.evaluation.specs.Answer.{answerWord}
 use Rattle.promise.proofs.Place.{filled-none, filled-on, filled-length}
 use Rattle.promise.specs.Place.{filled}
+use Rattle.meaning.proofs.Tests.{clash}
 use borrow.Author.Needs.{needs}
+use borrow.Author.Tests.{not-true}
 use lib.ListN.{length}
-use mathlib.Core.Path.{_≡_, refl, sym, ap, _∙_}
+use mathlib.Core.Path.{_≡_, refl, ap, _∙_}
 use native.Mathlib.Omega.{arith}
 use Rattle.evaluation.proofs.answers.Statement.{statement}
 use Rattle.evaluation.proofs.answers.Tie as tie
@@ -20,38 +21,20 @@ abbrev μ-loop : tie.MeasureT-loop
 loop-holds : tie.Need-loop-holds Inv-loop μ-loop
 loop-holds c = (search needs, filled-none _ _)
 
-mul-answer-at : tie.Need-mul-answer-at Inv-loop μ-loop
-mul-answer-at c = search needs
-
-shared-slice-read-answer-at : tie.Need-shared-slice-read-answer-at Inv-loop μ-loop
-shared-slice-read-answer-at c = omega (arith, c .before .before .before .before .before .before .before .before .pre .1 .long)
-
-answer-at-requires : tie.Need-answer-at-requires Inv-loop μ-loop
-answer-at-requires c κs =
-    let a = c .before .before .before .before .before .before .before .before .args in
-    (c .before .before .before .before .before .before .before .before .pre .0, probe-fits (a .d .now) (a .o) (a .creds .now) (a .probes .now) (a .w .now) (c .before .before .before .before .before .before .before .before .pre .0) (c .before .before .before .before .before .before .before .before .pre .1) (c .before .before .loop .i) (c .before .loop-test .taken))
-
-word-of-requires : tie.Need-word-of-requires Inv-loop μ-loop
-word-of-requires c κs = search needs
+answer-probe-requires : tie.Need-answer-probe-requires Inv-loop μ-loop
+answer-probe-requires c κs =
+    let start = c .before .before .before .before .before .before .before .before in
+    let a = start .args in
+    let l = c .before .before .loop in
+    let h : l .i < a .o .nprobes = omega arith in
+    let e = ap length (l .inv .1) ∙ filled-length (answerWord (a .d .now) (a .o)) (l .i) (a .table .now) (omega (arith, start .pre .2)) in
+    (start .pre .0, start .pre .1, h, omega (arith, e, start .pre .2))
 
 same-length : tie.Need-same-length Inv-loop μ-loop
-same-length c =
-    let a = c .before .before .before .before .before .before .before .before .before .before .before .args in
-    ap length (c .before .before .before .before .before .loop .inv .1) ∙ filled-length _ _ _ (omega (arith, c .before .before .before .before .before .before .before .before .before .before .before .pre .2))
+same-length c = c .before .before .before .answer-probe .kept .1 .1 .1 .1 .1 .1 .0 ∙ ap length (c .before .before .before .before .before .before .loop .inv .1) ∙ filled-length _ _ _ (omega (arith, c .before .before .before .before .before .before .before .before .before .before .before .before .pre .2))
 
 returns : tie.Need-returns Inv-loop μ-loop
-returns c =
-    let a = c .before .before .before .before .before .before .before .before .before .before .before .args in
-    absurd (word-sure (a .d .now) (a .o) (c .before .before .before .before .before .loop .i) (sym (probe-word (a .d .now) (a .o) (a .creds .now) (a .probes .now) (a .w .now) (c .before .before .before .before .before .before .before .before .before .before .before .pre .0) (c .before .before .before .before .before .before .before .before .before .before .before .pre .1) (c .before .before .before .before .before .loop .i) (c .before .before .before .before .loop-test .taken) (c .before .word-of .ensures) (c .before .before .answer-at .ensures)) ∙ c .if1 .taken))
-
-mul-table : tie.Need-mul-table Inv-loop μ-loop
-mul-table c = search needs
-
-slice-write-table : tie.Need-slice-write-table Inv-loop μ-loop
-slice-write-table c =
-    let a = c .before .before .before .before .before .before .before .before .before .before .before .args in
-    let e = ap length (c .before .before .before .before .before .loop .inv .1) ∙ filled-length (answerWord (a .d .now) (a .o)) (c .before .before .before .before .before .loop .i) (a .table .now) (omega (arith, c .before .before .before .before .before .before .before .before .before .before .before .pre .2)) in
-    omega (arith, e, c .before .before .before .before .before .before .before .before .before .before .before .pre .2)
+returns c = absurd (clash (c .before .before .before .answer-probe .ensures .0) (not-true _ (c .if1 .taken)))
 
 add-i : tie.Need-add-i Inv-loop μ-loop
 add-i c = search needs
@@ -61,13 +44,14 @@ loop-less c = search needs
 
 loop-again : tie.Need-loop-again Inv-loop μ-loop
 loop-again c =
-    let a = c .before .before .before .before .before .before .before .before .before .before .before .args in
-    (search needs, filled-on (answerWord (a .d .now) (a .o)) (c .before .before .before .before .before .loop .i) (a .table .now) (c .before .before .before .before .before .loop .inv .1) (probe-word (a .d .now) (a .o) (a .creds .now) (a .probes .now) (a .w .now) (c .before .before .before .before .before .before .before .before .before .before .before .pre .0) (c .before .before .before .before .before .before .before .before .before .before .before .pre .1) (c .before .before .before .before .before .loop .i) (c .before .before .before .before .loop-test .taken) (c .before .word-of .ensures) (c .before .before .answer-at .ensures)) (omega (arith, c .before .before .before .before .before .before .before .before .before .before .before .pre .2)))
+    let start = c .before .before .before .before .before .before .before .before .before .before .before .before in
+    let turn = c .before .before .before .before .before .before .loop in
+    let a = start .args in
+    let h : turn .i < length (a .table .now) = omega (arith, start .pre .2) in
+    (search needs, c .before .before .before .answer-probe .ensures .1 ∙ filled-on (answerWord (a .d .now) (a .o)) (turn .i) (a .table .now) (turn .inv .1) refl h)
 
 same-length-2 : tie.Need-same-length-2 Inv-loop μ-loop
-same-length-2 c =
-    let a = c .before .before .before .before .before .before .before .args in
-    ap length (c .before .loop .inv .1) ∙ filled-length _ _ _ (omega (arith, c .before .before .before .before .before .before .before .pre .2))
+same-length-2 c = ap length (c .before .loop .inv .1) ∙ filled-length _ _ _ (omega (arith, c .before .before .before .before .before .before .before .pre .2))
 
 returns-2 : tie.Need-returns-2 Inv-loop μ-loop
 returns-2 c =
@@ -82,14 +66,9 @@ answers-spec =
     Inv-loop
     μ-loop
     loop-holds
-    mul-answer-at
-    shared-slice-read-answer-at
-    answer-at-requires
-    word-of-requires
+    answer-probe-requires
     same-length
     returns
-    mul-table
-    slice-write-table
     add-i
     loop-less
     loop-again

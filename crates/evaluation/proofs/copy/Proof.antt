@@ -1,3 +1,4 @@
+-- `evaluation::copy` meets its contract. The invariant: the two are the same below i.
 use borrow.Author.Needs.{needs}
 use native.Mathlib.Omega.{arith}
 use Prim.Native.Nat.{_-_}

@@ -1,12 +1,11 @@
 -- `evaluation::grows` meets its contract. The invariant: what is left of the atoms answers as all of them do.
 use Prim.Native.Nat.{_≤_}
-use Rattle.evaluation.proofs.Firing.{more, grows-none, grows-yes, grows-old, grows-not}
+use Rattle.evaluation.proofs.Firing.{more, grows-none, grows-yes, grows-not}
 use Rattle.evaluation.specs.Table.{below}
 use Rattle.meaning.specs.Tests.{any}
 use borrow.Author.Needs.{needs}
 use lib.ListN.{length}
 use mathlib.Core.Path.{_≡_, refl, sym, _∙_}
-use native.Mathlib.Omega.{arith}
 use Rattle.evaluation.proofs.grows.Statement.{statement}
 use Rattle.evaluation.proofs.grows.Tie as tie
 
@@ -19,29 +18,20 @@ abbrev μ-loop : tie.MeasureT-loop
 loop-holds : tie.Need-loop-holds Inv-loop μ-loop
 loop-holds c = (search needs, refl)
 
-sub-a : tie.Need-sub-a Inv-loop μ-loop
-sub-a c = search needs
+sub-left : tie.Need-sub-left Inv-loop μ-loop
+sub-left c = search needs
 
-shared-slice-read-if1 : tie.Need-shared-slice-read-if1 Inv-loop μ-loop
-shared-slice-read-if1 c = omega (arith, c .before .before .before .pre)
-
-shared-slice-read-if2 : tie.Need-shared-slice-read-if2 Inv-loop μ-loop
-shared-slice-read-if2 c = omega arith
+is-new-requires : tie.Need-is-new-requires Inv-loop μ-loop
+is-new-requires c κs = search needs
 
 returns : tie.Need-returns Inv-loop μ-loop
-returns c = sym (c .before .before .before .before .before .loop .inv .1 ∙ grows-yes _ _ _ (c .before .before .before .before .loop-test .taken) (c .before .before .if1 .taken) (c .if2 .taken))
+returns c = sym (c .before .before .before .loop .inv .1 ∙ grows-yes _ _ _ (c .before .before .loop-test .taken) (c .before .is-new .ensures) (c .if1 .taken))
 
 loop-less : tie.Need-loop-less Inv-loop μ-loop
 loop-less c = search needs
 
 loop-again : tie.Need-loop-again Inv-loop μ-loop
-loop-again c = (search needs, c .before .before .before .before .before .loop .inv .1 ∙ grows-old _ _ _ (c .before .before .before .before .loop-test .taken) (c .if2 .left))
-
-loop-less-2 : tie.Need-loop-less-2 Inv-loop μ-loop
-loop-less-2 c = search needs
-
-loop-again-2 : tie.Need-loop-again-2 Inv-loop μ-loop
-loop-again-2 c = (search needs, c .before .before .before .loop .inv .1 ∙ grows-not _ _ _ (c .before .before .loop-test .taken) (c .if1 .left))
+loop-again c = (search needs, c .before .before .before .loop .inv .1 ∙ grows-not _ _ _ (c .before .before .loop-test .taken) (c .before .is-new .ensures) (c .if1 .left))
 
 returns-2 : tie.Need-returns-2 Inv-loop μ-loop
 returns-2 c = sym (c .before .loop .inv .1 ∙ grows-none _ _ _ (c .loop-test .left))
@@ -53,12 +43,9 @@ grows-spec =
     Inv-loop
     μ-loop
     loop-holds
-    sub-a
-    shared-slice-read-if1
-    shared-slice-read-if2
+    sub-left
+    is-new-requires
     returns
     loop-less
     loop-again
-    loop-less-2
-    loop-again-2
     returns-2)

@@ -10,16 +10,18 @@ slice-aggregate-starts c = search needs
 
 starts-requires : tie.Need-starts-requires
 starts-requires c κs =
-    let a = c .before .before .before .before .before .before .args in
-    (clauses-fit (a .d .now) (a .o) (c .before .before .before .before .before .before .pre .0), c .before .before .before .before .before .before .pre .0 .fewClauses)
+    let start = c .before .before .before .before .before .before in
+    let a = start .args in
+    (clauses-fit (a .d .now) (a .o) (start .pre .0), start .pre .0 .fewClauses)
 
 slice-aggregate-starts-2 : tie.Need-slice-aggregate-starts-2
 slice-aggregate-starts-2 c = search needs
 
 starts-requires-2 : tie.Need-starts-requires-2
 starts-requires-2 c κs =
-    let a = c .before .before .before .before .before .before .before .before .before .args in
-    (lines-fit (a .s .now) (a .k) (c .before .before .before .before .before .before .before .before .before .pre .6), c .before .before .before .before .before .before .before .before .before .pre .5)
+    let start = c .before .before .before .before .before .before .before .before .before in
+    let a = start .args in
+    (lines-fit (a .s .now) (a .k) (start .pre .6), start .pre .5)
 
 slice-aggregate-judge-proof : tie.Need-slice-aggregate-judge-proof
 slice-aggregate-judge-proof c = search needs
@@ -29,8 +31,9 @@ slice-aggregate-judge-proof-2 c = search needs
 
 judge-proof-requires : tie.Need-judge-proof-requires
 judge-proof-requires c κs =
-    let a = c .before .before .before .before .before .before .before .before .before .before .before .before .before .args in
-    (rules-ready (a .d .now) (a .o) (a .told .now) (c .before .before .before .before .before .before .before .before .before .before .before .before .before .pre .3) (c .before .before .before .before .before .before .before .before .before .before .before .before .before .pre .0) (clauses-filled (a .d .now) (a .o) _ (c .before .before .before .before .before .before .starts .ensures) (c .before .before .before .before .before .before .before .before .before .before .before .before .before .pre .0 .fewClauses)) (c .before .before .before .before .before .before .before .before .before .before .before .before .before .pre .1) (c .before .before .before .before .before .before .before .before .before .before .before .before .before .pre .2), lines-filled (a .s .now) (a .k) _ (c .before .before .before .starts2 .ensures) (c .before .before .before .before .before .before .before .before .before .before .before .before .before .pre .5), c .before .before .before .before .before .before .before .before .before .before .before .before .before .pre .6, c .before .before .before .before .before .before .before .before .before .before .before .before .before .pre .4, c .before .before .before .before .before .before .before .before .before .before .before .before .before .pre .5)
+    let start = c .before .before .before .before .before .before .before .before .before .before .before .before .before in
+    let a = start .args in
+    (rules-ready (a .d .now) (a .o) (a .told .now) (start .pre .3) (start .pre .0) (clauses-filled (a .d .now) (a .o) _ (c .before .before .before .before .before .before .starts .ensures) (start .pre .0 .fewClauses)) (start .pre .1) (start .pre .2), lines-filled (a .s .now) (a .k) _ (c .before .before .before .starts2 .ensures) (start .pre .5), start .pre .6, start .pre .4, start .pre .5)
 
 returns : tie.Need-returns
 returns c = search needs

@@ -23,21 +23,24 @@ enum-known-j c = search needs
 
 mul-refusing : tie.Need-mul-refusing
 mul-refusing c =
-    let a = c .before .before .before .before .before .before .before .before .before .before .before .args in
-    let h = line-below (a .d .now) (a .o) (a .s .now) (a .lines .now) (a .k) (c .before .before .before .before .before .before .before .before .before .before .before .pre .1) (c .before .before .before .first-failing .ensures) (c .before .j .given .1) in
-    let b = c .before .before .before .before .before .before .before .before .before .before .before .pre .4 in
+    let start = c .before .before .before .before .before .before .before .before .before .before .before in
+    let a = start .args in
+    let h = line-below (a .d .now) (a .o) (a .s .now) (a .lines .now) (a .k) (start .pre .1) (c .before .before .before .first-failing .ensures) (c .before .j .given .1) in
+    let b = start .pre .4 in
     scaled-fits _ 1024 8 (omega arith) (omega arith)
 
 shared-slice-read-refusing : tie.Need-shared-slice-read-refusing
 shared-slice-read-refusing c =
-    let a = c .before .before .before .before .before .before .before .before .before .before .before .before .args in
-    omega (arith, c .before .before .before .before .before .before .before .before .before .before .before .before .pre .1 .long, line-below (a .d .now) (a .o) (a .s .now) (a .lines .now) (a .k) (c .before .before .before .before .before .before .before .before .before .before .before .before .pre .1) (c .before .before .before .before .first-failing .ensures) (c .before .before .j .given .1))
+    let start = c .before .before .before .before .before .before .before .before .before .before .before .before in
+    let a = start .args in
+    omega (arith, start .pre .1 .long, line-below (a .d .now) (a .o) (a .s .now) (a .lines .now) (a .k) (start .pre .1) (c .before .before .before .before .first-failing .ensures) (c .before .before .j .given .1))
 
 refusing-requires : tie.Need-refusing-requires
 unfolding okOf
 refusing-requires c κs =
-    let a = c .before .before .before .before .before .before .before .before .before .before .before .before .args in
-    (line-fits (a .d .now) (a .o) (a .s .now) (a .lines .now) (a .k) (c .before .before .before .before .before .before .before .before .before .before .before .before .pre .1) _ (line-below (a .d .now) (a .o) (a .s .now) (a .lines .now) (a .k) (c .before .before .before .before .before .before .before .before .before .before .before .before .pre .1) (c .before .before .before .before .first-failing .ensures) (c .before .before .j .given .1)) (c .before .before .before .before .before .before .before .before .before .before .before .before .pre .2), line-ends _ _)
+    let start = c .before .before .before .before .before .before .before .before .before .before .before .before in
+    let a = start .args in
+    (line-fits (a .d .now) (a .o) (a .s .now) (a .lines .now) (a .k) (start .pre .1) _ (line-below (a .d .now) (a .o) (a .s .now) (a .lines .now) (a .k) (start .pre .1) (c .before .before .before .before .first-failing .ensures) (c .before .before .j .given .1)) (start .pre .2), line-ends _ _)
 
 enum-told-2 : tie.Need-enum-told-2
 enum-told-2 c = search needs
@@ -49,14 +52,17 @@ mul-judge-last : tie.Need-mul-judge-last
 mul-judge-last c = search needs
 
 shared-slice-read-judge-last : tie.Need-shared-slice-read-judge-last
-shared-slice-read-judge-last c = omega (arith, c .before .before .before .before .before .before .before .before .before .before .before .pre .1 .long, c .before .before .before .before .before .before .before .before .before .before .before .pre .3)
+shared-slice-read-judge-last c =
+    let start = c .before .before .before .before .before .before .before .before .before .before .before in
+    omega (arith, start .pre .1 .long, start .pre .3)
 
 judge-last-requires : tie.Need-judge-last-requires
 unfolding okOf
 judge-last-requires c κs =
-    let a = c .before .before .before .before .before .before .before .before .before .before .before .args in
-    let z : a .k - 1 < a .k = omega (arith, c .before .before .before .before .before .before .before .before .before .before .before .pre .3) in
-    line-fits (a .d .now) (a .o) (a .s .now) (a .lines .now) (a .k) (c .before .before .before .before .before .before .before .before .before .before .before .pre .1) _ z (c .before .before .before .before .before .before .before .before .before .before .before .pre .2)
+    let start = c .before .before .before .before .before .before .before .before .before .before .before in
+    let a = start .args in
+    let z : a .k - 1 < a .k = omega (arith, start .pre .3) in
+    line-fits (a .d .now) (a .o) (a .s .now) (a .lines .now) (a .k) (start .pre .1) _ z (start .pre .2)
 
 returns : tie.Need-returns
 returns c =
@@ -65,13 +71,15 @@ returns c =
 
 returns-2 : tie.Need-returns-2
 returns-2 c =
-    let a = c .before .before .before .before .before .before .before .before .before .before .before .before .before .args in
-    proof-fails (a .d .now) (a .o) (a .s .now) (a .lines .now) (a .k) (c .before .before .before .before .before .before .before .before .before .before .before .before .before .pre .1) (c .before .before .before .before .before .first-failing .ensures) (c .before .before .before .j .given .1) (c .refusing .ensures)
+    let start = c .before .before .before .before .before .before .before .before .before .before .before .before .before in
+    let a = start .args in
+    proof-fails (a .d .now) (a .o) (a .s .now) (a .lines .now) (a .k) (start .pre .1) (c .before .before .before .before .before .first-failing .ensures) (c .before .before .before .j .given .1) (c .refusing .ensures)
 
 returns-3 : tie.Need-returns-3
 returns-3 c =
-    let a = c .before .before .before .before .before .before .before .before .before .before .before .before .args in
-    proof-last (a .d .now) (a .o) (a .s .now) (a .lines .now) (a .k) (c .before .before .before .before .before .before .before .before .before .before .before .before .pre .1) (c .before .before .before .before .first-failing .ensures) (c .before .before .before .before .before .before .before .before .before .before .before .before .pre .3) (c .before .before .enum-told2 .given .1) (c .judge-last .ensures)
+    let start = c .before .before .before .before .before .before .before .before .before .before .before .before in
+    let a = start .args in
+    proof-last (a .d .now) (a .o) (a .s .now) (a .lines .now) (a .k) (start .pre .1) (c .before .before .before .before .first-failing .ensures) (start .pre .3) (c .before .before .enum-told2 .given .1) (c .judge-last .ensures)
 
 pub judge-proof-spec : {M : Type 1} → statement M
 judge-proof-spec =

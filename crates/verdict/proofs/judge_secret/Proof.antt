@@ -7,7 +7,9 @@ use Rattle.verdict.proofs.judge_secret.Statement.{statement}
 use Rattle.verdict.proofs.judge_secret.Tie as tie
 
 answer-at-requires : tie.Need-answer-at-requires
-answer-at-requires c κs = (c .before .before .before .pre, c .before .before .before .pre .laid .secret)
+answer-at-requires c κs =
+    let start = c .before .before .before in
+    (start .pre, start .pre .laid .secret)
 
 enum-told : tie.Need-enum-told
 enum-told c = search needs
@@ -21,8 +23,9 @@ enum-told-2 c = search needs
 refusing-requires : tie.Need-refusing-requires
 unfolding okOf
 refusing-requires c κs =
-    let a = c .before .before .before .before .before .before .args in
-    (c .before .before .before .before .before .before .pre .laid .secret .ends, entry-ends _ _)
+    let start = c .before .before .before .before .before .before in
+    let a = start .args in
+    (start .pre .laid .secret .ends, entry-ends _ _)
 
 enum-told-3 : tie.Need-enum-told-3
 enum-told-3 c = search needs
@@ -32,18 +35,21 @@ unsettled-requires c κs = search needs
 
 returns : tie.Need-returns
 returns c =
-    let a = c .before .before .before .before .before .before .before .args in
-    secret-no (a .d .now) (a .o) (a .w .now) (a .k) (a .creds .now) (c .before .before .before .before .before .before .before .pre) (c .before .before .before .answer-at .ensures) (c .before .enum-told .given .1) (c .accepting .ensures)
+    let start = c .before .before .before .before .before .before .before in
+    let a = start .args in
+    secret-no (a .d .now) (a .o) (a .w .now) (a .k) (a .creds .now) (start .pre) (c .before .before .before .answer-at .ensures) (c .before .enum-told .given .1) (c .accepting .ensures)
 
 returns-2 : tie.Need-returns-2
 returns-2 c =
-    let a = c .before .before .before .before .before .before .before .args in
-    secret-yes (a .d .now) (a .o) (a .w .now) (a .k) (a .creds .now) (c .before .before .before .before .before .before .before .pre) (c .before .before .before .answer-at .ensures) (c .before .enum-told2 .given .1) (c .refusing .ensures)
+    let start = c .before .before .before .before .before .before .before in
+    let a = start .args in
+    secret-yes (a .d .now) (a .o) (a .w .now) (a .k) (a .creds .now) (start .pre) (c .before .before .before .answer-at .ensures) (c .before .enum-told2 .given .1) (c .refusing .ensures)
 
 returns-3 : tie.Need-returns-3
 returns-3 c =
-    let a = c .before .before .before .before .before .before .before .args in
-    absurd (secret-settled (a .d .now) (a .o) (a .w .now) (a .k) (a .creds .now) (c .before .before .before .before .before .before .before .pre) (c .before .before .before .answer-at .ensures) (c .before .enum-told3 .given .1))
+    let start = c .before .before .before .before .before .before .before in
+    let a = start .args in
+    absurd (secret-settled (a .d .now) (a .o) (a .w .now) (a .k) (a .creds .now) (start .pre) (c .before .before .before .answer-at .ensures) (c .before .enum-told3 .given .1))
 
 pub judge-secret-spec : {M : Type 1} → statement M
 judge-secret-spec =

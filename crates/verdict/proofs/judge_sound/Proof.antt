@@ -11,16 +11,18 @@ slice-aggregate-starts c = search needs
 
 starts-requires : tie.Need-starts-requires
 starts-requires c κs =
-    let a = c .before .before .before .args in
-    (creds-fit (a .d .now) (a .o) (c .before .before .before .pre .0), c .before .before .before .pre .0 .fewCreds)
+    let start = c .before .before .before in
+    let a = start .args in
+    (creds-fit (a .d .now) (a .o) (start .pre .0), start .pre .0 .fewCreds)
 
 slice-aggregate-starts-2 : tie.Need-slice-aggregate-starts-2
 slice-aggregate-starts-2 c = search needs
 
 starts-requires-2 : tie.Need-starts-requires-2
 starts-requires-2 c κs =
-    let a = c .before .before .before .before .before .before .args in
-    (probes-fit (a .d .now) (a .o) (c .before .before .before .before .before .before .pre .0), c .before .before .before .before .before .before .pre .0 .few)
+    let start = c .before .before .before .before .before .before in
+    let a = start .args in
+    (probes-fit (a .d .now) (a .o) (start .pre .0), start .pre .0 .few)
 
 slice-aggregate-answers : tie.Need-slice-aggregate-answers
 slice-aggregate-answers c = search needs
@@ -34,8 +36,9 @@ slice-aggregate-answers-3 c = search needs
 answers-requires : tie.Need-answers-requires
 unfolding WhichFits
 answers-requires c κs =
-    let a = c .before .before .before .before .before .before .before .before .before .before .before .args in
-    (record { laid = c .before .before .before .before .before .before .before .before .before .before .before .pre .0; starts = creds-filled (a .d .now) (a .o) _ (c .before .before .before .before .before .before .before .starts .ensures) (c .before .before .before .before .before .before .before .before .before .before .before .pre .0 .fewCreds); witness = tt }, probes-filled (a .d .now) (a .o) _ (c .before .before .before .before .starts2 .ensures) (c .before .before .before .before .before .before .before .before .before .before .before .pre .0 .few), c .before .before .before .before .before .before .before .before .before .before .before .pre .0 .few)
+    let start = c .before .before .before .before .before .before .before .before .before .before .before in
+    let a = start .args in
+    (record { laid = start .pre .0; starts = creds-filled (a .d .now) (a .o) _ (c .before .before .before .before .before .before .before .starts .ensures) (start .pre .0 .fewCreds); witness = tt }, probes-filled (a .d .now) (a .o) _ (c .before .before .before .before .starts2 .ensures) (start .pre .0 .few), start .pre .0 .few)
 
 unsettled-requires : tie.Need-unsettled-requires
 unsettled-requires c κs = search needs
@@ -58,8 +61,9 @@ slice-aggregate-judge-witness-3 c = search needs
 judge-witness-requires : tie.Need-judge-witness-requires
 unfolding WhichFits
 judge-witness-requires c κs =
-    let a = c .before .before .before .before .before .before .before .before .before .before .before .before .before .before .before .before .before .before .before .before .args in
-    (record { laid = c .before .before .before .before .before .before .before .before .before .before .before .before .before .before .before .before .before .before .before .before .pre .0; starts = creds-filled (a .d .now) (a .o) _ (c .before .before .before .before .before .before .before .before .before .before .before .before .before .before .before .before .starts .ensures) (c .before .before .before .before .before .before .before .before .before .before .before .before .before .before .before .before .before .before .before .before .pre .0 .fewCreds); witness = witness-there (a .o .atoms) (a .c .now) (c .before .before .before .before .proposal .given .1) (c .before .before .before .before .before .before .before .before .before .before .before .before .before .before .before .before .before .before .before .before .pre .1) }, probes-filled (a .d .now) (a .o) _ (c .before .before .before .before .before .before .before .before .before .before .before .before .before .starts2 .ensures) (c .before .before .before .before .before .before .before .before .before .before .before .before .before .before .before .before .before .before .before .before .pre .0 .few), told-filled (a .d .now) (a .o) _ (c .before .before .before .before .before .before .before .before .answers .ensures .1) (c .before .before .before .before .before .before .before .before .before .before .before .before .before .before .before .before .before .before .before .before .pre .0 .few))
+    let start = c .before .before .before .before .before .before .before .before .before .before .before .before .before .before .before .before .before .before .before .before in
+    let a = start .args in
+    (record { laid = start .pre .0; starts = creds-filled (a .d .now) (a .o) _ (c .before .before .before .before .before .before .before .before .before .before .before .before .before .before .before .before .starts .ensures) (start .pre .0 .fewCreds); witness = witness-there (a .o .atoms) (a .c .now) (c .before .before .before .before .proposal .given .1) (start .pre .1) }, probes-filled (a .d .now) (a .o) _ (c .before .before .before .before .before .before .before .before .before .before .before .before .before .starts2 .ensures) (start .pre .0 .few), told-filled (a .d .now) (a .o) _ (c .before .before .before .before .before .before .before .before .answers .ensures .1) (start .pre .0 .few))
 
 enum-known-proposal-2 : tie.Need-enum-known-proposal-2
 enum-known-proposal-2 c = search needs
@@ -75,9 +79,10 @@ slice-aggregate-judge-lines-3 c = search needs
 
 judge-lines-requires : tie.Need-judge-lines-requires
 judge-lines-requires c κs =
-    let a = c .before .before .before .before .before .before .before .before .before .before .before .before .before .before .before .before .before .before .before .before .args in
-    let t = proof-there (a .o .atoms) (a .c .now) (c .before .before .before .before .proposal2 .given .1) (c .before .before .before .before .before .before .before .before .before .before .before .before .before .before .before .before .before .before .before .before .pre .1) in
-    (c .before .before .before .before .before .before .before .before .before .before .before .before .before .before .before .before .before .before .before .before .pre .0, creds-filled (a .d .now) (a .o) _ (c .before .before .before .before .before .before .before .before .before .before .before .before .before .before .before .before .starts .ensures) (c .before .before .before .before .before .before .before .before .before .before .before .before .before .before .before .before .before .before .before .before .pre .0 .fewCreds), probes-filled (a .d .now) (a .o) _ (c .before .before .before .before .before .before .before .before .before .before .before .before .before .starts2 .ensures) (c .before .before .before .before .before .before .before .before .before .before .before .before .before .before .before .before .before .before .before .before .pre .0 .few), told-filled (a .d .now) (a .o) _ (c .before .before .before .before .before .before .before .before .answers .ensures .1) (c .before .before .before .before .before .before .before .before .before .before .before .before .before .before .before .before .before .before .before .before .pre .0 .few), t .0, t .1, t .2)
+    let start = c .before .before .before .before .before .before .before .before .before .before .before .before .before .before .before .before .before .before .before .before in
+    let a = start .args in
+    let t = proof-there (a .o .atoms) (a .c .now) (c .before .before .before .before .proposal2 .given .1) (start .pre .1) in
+    (start .pre .0, creds-filled (a .d .now) (a .o) _ (c .before .before .before .before .before .before .before .before .before .before .before .before .before .before .before .before .starts .ensures) (start .pre .0 .fewCreds), probes-filled (a .d .now) (a .o) _ (c .before .before .before .before .before .before .before .before .before .before .before .before .before .starts2 .ensures) (start .pre .0 .few), told-filled (a .d .now) (a .o) _ (c .before .before .before .before .before .before .before .before .answers .ensures .1) (start .pre .0 .few), t .0, t .1, t .2)
 
 returns-2 : tie.Need-returns-2
 returns-2 c =

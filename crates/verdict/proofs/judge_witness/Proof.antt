@@ -22,21 +22,24 @@ enum-known-j c = search needs
 
 mul-refusing : tie.Need-mul-refusing
 mul-refusing c =
-    let a = c .before .before .before .before .before .before .before .before .before .args in
+    let start = c .before .before .before .before .before .before .before .before .before in
+    let a = start .args in
     let h = probe-below (a .d .now) (a .o) (a .w .now) (a .k) (c .before .before .before .first-differing .ensures) (c .before .j .given .1) in
-    let b = c .before .before .before .before .before .before .before .before .before .pre .0 .laid .few in
+    let b = start .pre .0 .laid .few in
     scaled-fits _ 64 8 (omega arith) (omega arith)
 
 shared-slice-read-refusing : tie.Need-shared-slice-read-refusing
 shared-slice-read-refusing c =
-    let a = c .before .before .before .before .before .before .before .before .before .before .args in
-    omega (arith, c .before .before .before .before .before .before .before .before .before .before .pre .1 .long, probe-below (a .d .now) (a .o) (a .w .now) (a .k) (c .before .before .before .before .first-differing .ensures) (c .before .before .j .given .1))
+    let start = c .before .before .before .before .before .before .before .before .before .before in
+    let a = start .args in
+    omega (arith, start .pre .1 .long, probe-below (a .d .now) (a .o) (a .w .now) (a .k) (c .before .before .before .before .first-differing .ensures) (c .before .before .j .given .1))
 
 refusing-requires : tie.Need-refusing-requires
 unfolding okOf
 refusing-requires c κs =
-    let a = c .before .before .before .before .before .before .before .before .before .before .args in
-    ((probe-fits (a .d .now) (a .o) (a .creds .now) (a .probes .now) (a .told .now) (a .w .now) (a .k) (c .before .before .before .before .before .before .before .before .before .before .pre .0) (c .before .before .before .before .before .before .before .before .before .before .pre .1) (c .before .before .before .before .before .before .before .before .before .before .pre .2) _ (probe-below (a .d .now) (a .o) (a .w .now) (a .k) (c .before .before .before .before .first-differing .ensures) (c .before .before .j .given .1))) .ends, entry-ends _ _)
+    let start = c .before .before .before .before .before .before .before .before .before .before in
+    let a = start .args in
+    ((probe-fits (a .d .now) (a .o) (a .creds .now) (a .probes .now) (a .told .now) (a .w .now) (a .k) (start .pre .0) (start .pre .1) (start .pre .2) _ (probe-below (a .d .now) (a .o) (a .w .now) (a .k) (c .before .before .before .before .first-differing .ensures) (c .before .before .j .given .1))) .ends, entry-ends _ _)
 
 enum-told-2 : tie.Need-enum-told-2
 enum-told-2 c = search needs
@@ -51,8 +54,9 @@ returns c =
 
 returns-2 : tie.Need-returns-2
 returns-2 c =
-    let a = c .before .before .before .before .before .before .before .before .before .before .before .args in
-    witness-differs (a .d .now) (a .o) (a .w .now) (a .k) (c .before .before .before .before .before .first-differing .ensures) (a .probes .now) (c .before .before .before .before .before .before .before .before .before .before .before .pre .1) (c .before .before .before .j .given .1) (c .refusing .ensures)
+    let start = c .before .before .before .before .before .before .before .before .before .before .before in
+    let a = start .args in
+    witness-differs (a .d .now) (a .o) (a .w .now) (a .k) (c .before .before .before .before .before .first-differing .ensures) (a .probes .now) (start .pre .1) (c .before .before .before .j .given .1) (c .refusing .ensures)
 
 returns-3 : tie.Need-returns-3
 returns-3 c =

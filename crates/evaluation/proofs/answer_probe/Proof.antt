@@ -1,0 +1,57 @@
+-- `evaluation::answer_probe` meets its contract: the word is never 2.
+use Rattle.evaluation.proofs.Entry.{probe-word, probe-fits, word-sure}
+use lib.ListN.{set}
+use mathlib.Core.Path.{refl, sym, ap, _∙_}
+use borrow.Author.Needs.{needs}
+use Rattle.evaluation.proofs.answer_probe.Statement.{statement}
+use Rattle.evaluation.proofs.answer_probe.Tie as tie
+
+mul-answer-at : tie.Need-mul-answer-at
+mul-answer-at c = search needs
+
+shared-slice-read-answer-at : tie.Need-shared-slice-read-answer-at
+shared-slice-read-answer-at c = search needs
+
+answer-at-requires : tie.Need-answer-at-requires
+answer-at-requires c κs =
+    let start = c .before .before .before .before .before .before in
+    let a = start .args in
+    (start .pre .0, probe-fits (a .d .now) (a .o) (a .creds .now) (a .probes .now) (a .w .now) (start .pre .0) (start .pre .1) (a .i) (start .pre .2))
+
+word-of-requires : tie.Need-word-of-requires
+word-of-requires c κs = search needs
+
+returns : tie.Need-returns
+returns c =
+    let start = c .before .before .before .before .before .before .before .before .before in
+    let a = start .args in
+    absurd (word-sure (a .d .now) (a .o) (a .i) (sym (probe-word (a .d .now) (a .o) (a .creds .now) (a .probes .now) (a .w .now) (start .pre .0) (start .pre .1) (a .i) (start .pre .2) (c .before .word-of .ensures) (c .before .before .answer-at .ensures)) ∙ c .if1 .taken))
+
+mul-table : tie.Need-mul-table
+mul-table c = search needs
+
+slice-write-table : tie.Need-slice-write-table
+slice-write-table c = search needs
+
+same-length : tie.Need-same-length
+same-length c = search needs
+
+returns-2 : tie.Need-returns-2
+returns-2 c =
+    let start = c .before .before .before .before .before .before .before .before .before in
+    let a = start .args in
+    (refl, ap (set (a .table .now) (a .i)) (probe-word (a .d .now) (a .o) (a .creds .now) (a .probes .now) (a .w .now) (start .pre .0) (start .pre .1) (a .i) (start .pre .2) (c .before .word-of .ensures) (c .before .before .answer-at .ensures)))
+
+pub answer-probe-spec : {M : Type 1} → statement M
+answer-probe-spec =
+    tie.close
+    (tie.spec
+    mul-answer-at
+    shared-slice-read-answer-at
+    answer-at-requires
+    word-of-requires
+    returns
+    mul-table
+    slice-write-table
+    same-length
+    returns-2)
