@@ -25,6 +25,8 @@ use Rattle.promise.proofs.data_count.Reads as promise-data-count
 use Rattle.promise.proofs.after_literals.Reads as promise-after-literals
 use Rattle.promise.proofs.next_at.Reads as promise-next-at
 use Rattle.promise.proofs.starts.Reads as promise-starts
+use Rattle.promise.proofs.same_words.Reads as promise-same-words
+use Rattle.promise.proofs.same_said.Reads as promise-same-said
 use Rattle.words.proofs.word_in.Reads as words-word-in
 use Rattle.words.proofs.rising_words.Reads as words-rising-words
 use Rattle.words.proofs.list_at.Reads as words-list-at
@@ -33,6 +35,15 @@ use Rattle.text.proofs.split.Reads as text-split
 use Rattle.text.proofs.words.Reads as text-words
 use Rattle.text.proofs.line.Reads as text-line
 use Rattle.text.proofs.input_line.Reads as text-input-line
+use Rattle.text.proofs.word_at.Reads as text-word-at
+use Rattle.text.proofs.write.Reads as text-write
+use Rattle.text.proofs.digits.Reads as text-digits
+use Rattle.text.proofs.refusal.Reads as text-refusal
+use Rattle.printed.proofs.papers_line.Reads as printed-papers-line
+use Rattle.printed.proofs.papers_at.Reads as printed-papers-at
+use Rattle.printed.proofs.stdin_line.Reads as printed-stdin-line
+use Rattle.printed.proofs.answers_line.Reads as printed-answers-line
+use Rattle.printed.proofs.shown_line.Reads as printed-shown-line
 
 -- two answers to the same arguments that the promise allows are one
 abbrev pub OneReply : {K A X E : Type 0} → (K → A → X → E → Type 0) → Type 0
@@ -75,6 +86,8 @@ pub record NoSlack : Type 0 where
   pub afterLiterals : OneReply promise-after-literals.Post
   pub nextAt : OneReply promise-next-at.Post
   pub startsTable : OneTable (λ e. e .1 .1 .1 .1 .0) promise-starts.Post
+  pub sameWords : OneReply promise-same-words.Post
+  pub sameSaid : OneReply promise-same-said.Post
   -- words
   pub wordIn : OneReply words-word-in.Post
   pub risingWords : OneReply words-rising-words.Post
@@ -89,3 +102,23 @@ pub record NoSlack : Type 0 where
   pub lineTable : OneTable (λ e. e .1 .0) text-line.Post
   pub inputLine : OneReply text-input-line.Post
   pub inputLineTable : OneTable (λ e. e .0) text-input-line.Post
+  pub textWord : OneReply text-word-at.Post
+  pub write : OneReply text-write.Post
+  pub writeTable : OneTable (λ e. e .1 .0) text-write.Post
+  pub digits : OneReply text-digits.Post
+  pub digitsTable : OneTable (λ e. e .1 .1 .0) text-digits.Post
+  pub refusal : OneReply text-refusal.Post
+  pub refusalTable : OneTable (λ e. e .1 .1 .1 .1 .0) text-refusal.Post
+  -- printed
+  pub papersLine : OneReply printed-papers-line.Post
+  pub papersLineTable : OneTable (λ e. e .1 .1 .0) printed-papers-line.Post
+  pub papersAt : OneReply printed-papers-at.Post
+  pub papersAtTable : OneTable (λ e. e .1 .1 .1 .1 .0) printed-papers-at.Post
+  pub stdinLine : OneReply printed-stdin-line.Post
+  pub stdinLineTable : OneTable (λ e. e .1 .1 .0) printed-stdin-line.Post
+  pub stdinWords : OneTable (λ e. e .1 .0) printed-stdin-line.Post
+  pub answersLine : OneReply printed-answers-line.Post
+  pub answersLineTable : OneTable (λ e. e .1 .1 .0) printed-answers-line.Post
+  pub answersLineAnswers : OneTable (λ e. e .1 .0) printed-answers-line.Post
+  pub shownLine : OneReply printed-shown-line.Post
+  pub shownLineTable : OneTable (λ e. e .1 .1 .1 .1 .1 .0) printed-shown-line.Post

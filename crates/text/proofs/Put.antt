@@ -12,7 +12,7 @@ use Rattle.reply.specs.declared.Paper.the-variants.{Dossier, Certificate}
 use Rattle.reply.specs.declared.Verdict.{Verdict}
 use Rattle.reply.specs.declared.Verdict.the-variants.{Opaque, Detectable, Refused}
 use Rattle.reply.specs.declared.Reply.{Reply}
-use Rattle.text.specs.Line.{put, digitsOf, nameOf, decimal, refusalOf, verdictLine, lineOf, inputLine}
+use Rattle.text.specs.Line.{put, digitsOf, nameOf, decimal, refusalOf, refusalLine, verdictLine, lineOf, inputLine}
 
 -- nothing yet
 pub put-none : (t : List ℕ) (at : ℕ) → t ≡ put t at []
@@ -106,27 +106,46 @@ module _ (t : List ℕ) (at k n : ℕ) where
         let l : p + 1 ≡ at + length (digitsOf (k - 1) (n / 10) ++ (v ∷ [])) = omega (arith, length-append (digitsOf (k - 1) (n / 10)) (v ∷ [])) in
         (put-on t at (digitsOf (k - 1) (n / 10)) v e f (write-room f) ∙ ap (put t at) d, l ∙ ap (λ (x : List ℕ). at + length x) d)
 
--- a line that is written piece by piece: what is written so far, and where the next piece goes
+-- a text that is written piece by piece from a place on: what is written so far, and where the next piece goes
+abbrev pub Placed : List ℕ → ℕ → List ℕ → List ℕ → ℕ → Type 0
+Placed t at xs u p = (u ≡ put t at xs) × (p ≡ at + length xs)
+
+pub placed-more : (t : List ℕ) (at : ℕ) → at ≤ length t → (xs bs : List ℕ) {u w : List ℕ} {p q : ℕ} → Placed t at xs u p → Placed u p bs w q → Placed t at (xs ++ bs) w q
+placed-more t at h xs bs (e, f) (g, k) = (put-more t at xs bs e f g h, omega (arith, length-append xs bs))
+
+-- the same from the table's start
 abbrev pub Wrote : List ℕ → List ℕ → List ℕ → ℕ → Type 0
 Wrote t xs u p = (u ≡ put t 0 xs) × (p ≡ length xs)
 
-pub wrote-more : (t xs bs : List ℕ) {u w : List ℕ} {p q : ℕ} → Wrote t xs u p → (w ≡ put u p bs) × (q ≡ p + length bs) → Wrote t (xs ++ bs) w q
-wrote-more t xs bs (e, f) (g, h) = (put-more t 0 xs bs e (omega arith) g (omega arith), omega (arith, length-append xs bs))
+pub wrote-first : (t xs : List ℕ) {u : List ℕ} {p : ℕ} → Placed t 0 xs u p → Wrote t xs u p
+wrote-first t xs (e, f) = (e, omega arith)
+
+pub wrote-more : (t xs bs : List ℕ) {u w : List ℕ} {p q : ℕ} → Wrote t xs u p → Placed u p bs w q → Wrote t (xs ++ bs) w q
+wrote-more t xs bs (e, f) m = let r = placed-more t 0 (omega arith) xs bs (e, omega arith) m in (r .0, omega arith)
+
+-- the text is another one, which it equals
+pub wrote-is : (t xs : List ℕ) {ys u : List ℕ} {p : ℕ} → Wrote t xs u p → xs ≡ ys → Wrote t ys u p
+wrote-is t xs (e, f) g = (e ∙ ap (put t 0) g, f ∙ ap length g)
 
 pub name-short : (p : Paper) → length (nameOf p) ≤ 13
 unfolding nameOf
 name-short Dossier = omega arith
 name-short Certificate = omega arith
 
+-- a refusal, with its three numbers of at most 20 digits
+pub refusal-short : (number : ℕ) (paper : Paper) (place count : ℕ) → length (refusalOf number paper place count) ≤ 82
+unfolding refusalOf decimal
+refusal-short number paper place count = simp length-append (omega (arith, digits-short 20 number, name-short paper, digits-short 20 place, digits-short 20 count))
+
 -- no line is longer than 96 bytes
 pub line-short : (r : Reply) → length (lineOf r) ≤ 96
-unfolding lineOf verdictLine refusalOf decimal
+unfolding lineOf verdictLine refusalLine
 line-short r = go (r .verdict) (r .paper) (r .place) (r .count)
   where
     go : (v : Verdict) (p : Paper) (place count : ℕ) → length (verdictLine v p place count) ≤ 96
     go Opaque p place count = omega arith
     go Detectable p place count = omega arith
-    go (Refused n) p place count = simp length-append (omega (arith, digits-short 20 n, name-short p, digits-short 20 place, digits-short 20 count))
+    go (Refused n) p place count = omega (arith, length-append (refusalOf n p place count) (10 ∷ []), refusal-short n p place count)
 
 pub input-line-short : length inputLine ≤ 96
 unfolding inputLine

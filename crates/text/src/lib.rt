@@ -1,4 +1,4 @@
-// What the program judge reads and writes: bytes as words, and a reply as its line of text.
+// What the programs read and write: bytes as words, and a reply as its line of text.
 use reply::Paper;
 use reply::Reply;
 use reply::Verdict;
@@ -7,7 +7,7 @@ ghost use Prim.Native.Nat.{_+_, _*_, _/_, _≤_, _<_, min};
 ghost use lib.ListN.{length};
 ghost use Rattle.promise.specs.Place.{filled};
 ghost use Rattle.text.specs.Bytes.{wordAt, whole, inputOf};
-ghost use Rattle.text.specs.Line.{put, digitsOf, nameOf, refusalOf, lineOf, inputLine};
+ghost use Rattle.text.specs.Line.{put, digitsOf, nameOf, refusalOf, refusalLine, lineOf, inputLine};
 
 // What standard input holds: papers, so many words of the dossier and of the certificate; or nothing that can be judged.
 pub enum Input {
@@ -22,7 +22,7 @@ fn least(a: usize, b: usize) -> usize
 }
 
 // Word i of the bytes, low byte first.
-fn word_at(bytes: &[u8], i: usize) -> u16
+pub fn word_at(bytes: &[u8], i: usize) -> u16
     requires { ⌜ 2 * i + 1 < length (now bytes) ⌝ }
     ensures { λ r. ⌜ (r ≡ wordAt (now (bytes .entry)) i) × (r < 65536) ⌝ }
 {
@@ -72,8 +72,8 @@ pub fn words(bytes: &[u8], table: &mut [u16])
     }
 }
 
-// Writes the piece from place `at` on. Answers the place after it.
-fn write(piece: &[u8], out: &mut [u8], at: usize) -> usize
+// Writes the piece from place `at` on; the rest of the table stays. Answers the place after it.
+pub fn write(piece: &[u8], out: &mut [u8], at: usize) -> usize
     requires { ⌜ at + length (now piece) ≤ length (now out) ⌝ }
     ensures { λ r. ⌜ (now (out .exit) ≡ put (now (out .entry)) at (now (piece .entry))) × (r ≡ at + length (now (piece .entry))) ⌝ }
 {
@@ -93,8 +93,8 @@ fn digit(d: usize) -> u8
     48 + (d as u8)
 }
 
-// Writes n in decimal from place `at` on, with at most so many digits as there is room. Answers the place after it.
-fn digits(n: usize, room: usize, out: &mut [u8], at: usize) -> usize
+// Writes n in decimal from place `at` on, with at most so many digits as there is room; the rest of the table stays. Answers the place after it.
+pub fn digits(n: usize, room: usize, out: &mut [u8], at: usize) -> usize
     requires { ⌜ at + room ≤ length (now out) ⌝ }
     ensures { λ r. ⌜ (now (out .exit) ≡ put (now (out .entry)) at (digitsOf room n)) × (r ≡ at + length (digitsOf room n)) ⌝ }
 {
@@ -121,8 +121,8 @@ fn name(paper: Paper, out: &mut [u8], at: usize) -> usize
     }
 }
 
-// The line of a refusal.
-fn refusal(number: u16, paper: Paper, place: usize, count: usize, out: &mut [u8]) -> usize
+// Writes a refusal, without a line feed, at the table's start; the rest of the table stays. Answers how many bytes it has.
+pub fn refusal(number: u16, paper: Paper, place: usize, count: usize, out: &mut [u8]) -> usize
     requires { ⌜ 96 ≤ length (now out) ⌝ }
     ensures { λ r. ⌜ (now (out .exit) ≡ put (now (out .entry)) 0 (refusalOf number paper place count)) × (r ≡ length (refusalOf number paper place count)) ⌝ }
 {
@@ -131,8 +131,16 @@ fn refusal(number: u16, paper: Paper, place: usize, count: usize, out: &mut [u8]
     let c = name(paper, out, b);
     let d = digits(place, 20, out, c);
     let e = write(b" ", out, d);
-    let f = digits(count, 20, out, e);
-    write(b"\n", out, f)
+    digits(count, 20, out, e)
+}
+
+// The line of a refusal.
+fn refusal_line(number: u16, paper: Paper, place: usize, count: usize, out: &mut [u8]) -> usize
+    requires { ⌜ 96 ≤ length (now out) ⌝ }
+    ensures { λ r. ⌜ (now (out .exit) ≡ put (now (out .entry)) 0 (refusalLine number paper place count)) × (r ≡ length (refusalLine number paper place count)) ⌝ }
+{
+    let end = refusal(number, paper, place, count, out);
+    write(b"\n", out, end)
 }
 
 // Writes the line that the reply prints at the table's start; the rest of the table stays. Answers how many bytes the line has.
@@ -147,7 +155,7 @@ pub fn line(reply: Reply, out: &mut [u8]) -> usize
     match verdict {
         Verdict::Opaque => write(b"OPAQUE\n", out, 0),
         Verdict::Detectable => write(b"DETECTABLE\n", out, 0),
-        Verdict::Refused(number) => refusal(number, paper, place, count, out),
+        Verdict::Refused(number) => refusal_line(number, paper, place, count, out),
     }
 }
 

@@ -2,7 +2,7 @@
 use native.Mathlib.Omega.{arith}
 use mathlib.Core.Path.{sym}
 use lib.Seq.{length-take-le}
-use Rattle.judge.proofs.Read.{printed-count}
+use Rattle.printed.proofs.Read.{printed-count}
 use borrow.Author.Needs.{needs}
 use Rattle.judge.proofs.main.Statement.{statement}
 use Rattle.judge.proofs.main.Tie as tie
@@ -25,23 +25,23 @@ blank-requires c κs = search needs
 array-share-prefix-bytes : tie.Need-array-share-prefix-bytes
 array-share-prefix-bytes c = search needs
 
-slice-aggregate-answer : tie.Need-slice-aggregate-answer
-slice-aggregate-answer c = search needs
+slice-aggregate-stdin-line : tie.Need-slice-aggregate-stdin-line
+slice-aggregate-stdin-line c = search needs
 
-slice-aggregate-answer-2 : tie.Need-slice-aggregate-answer-2
-slice-aggregate-answer-2 c = search needs
+slice-aggregate-stdin-line-2 : tie.Need-slice-aggregate-stdin-line-2
+slice-aggregate-stdin-line-2 c = search needs
 
-slice-aggregate-answer-3 : tie.Need-slice-aggregate-answer-3
-slice-aggregate-answer-3 c = search needs
+slice-aggregate-stdin-line-3 : tie.Need-slice-aggregate-stdin-line-3
+slice-aggregate-stdin-line-3 c = search needs
 
-answer-requires : tie.Need-answer-requires
-answer-requires c κs = search needs
+stdin-line-requires : tie.Need-stdin-line-requires
+stdin-line-requires c κs = search needs
 
 array-share-prefix-out : tie.Need-array-share-prefix-out
-array-share-prefix-out c = let e = printed-count _ (c .before .before .answer .ensures .1) in omega (arith, e, c .before .before .answer .kept .1 .1 .0)
+array-share-prefix-out c = let e = printed-count _ (c .before .before .stdin-line .ensures .1) in omega (arith, e, c .before .before .stdin-line .kept .1 .1 .0)
 
 slice-aggregate-write-all : tie.Need-slice-aggregate-write-all
-slice-aggregate-write-all c = let e = printed-count _ (c .before .before .before .answer .ensures .1) in sym (length-take-le (c .before .before .before .answer .result) (c .before .before .before .answer .last .1 .1 .0) (omega (arith, e, c .before .before .before .answer .kept .1 .1 .0)))
+slice-aggregate-write-all c = let e = printed-count _ (c .before .before .before .stdin-line .ensures .1) in sym (length-take-le (c .before .before .before .stdin-line .result) (c .before .before .before .stdin-line .last .1 .1 .0) (omega (arith, e, c .before .before .before .stdin-line .kept .1 .1 .0)))
 
 write-all-requires : tie.Need-write-all-requires
 write-all-requires c κs = search needs
@@ -59,10 +59,10 @@ main-spec =
     room-requires
     blank-requires
     array-share-prefix-bytes
-    slice-aggregate-answer
-    slice-aggregate-answer-2
-    slice-aggregate-answer-3
-    answer-requires
+    slice-aggregate-stdin-line
+    slice-aggregate-stdin-line-2
+    slice-aggregate-stdin-line-3
+    stdin-line-requires
     array-share-prefix-out
     slice-aggregate-write-all
     write-all-requires

@@ -25,8 +25,8 @@ write-requires-2 c κs = search needs
 enum-known-verdict : tie.Need-enum-known-verdict
 enum-known-verdict c = search needs
 
-refusal-requires : tie.Need-refusal-requires
-refusal-requires c κs = search needs
+refusal-line-requires : tie.Need-refusal-line-requires
+refusal-line-requires c κs = search needs
 
 same-length : tie.Need-same-length
 same-length c = search needs
@@ -47,7 +47,7 @@ same-length-3 c = search needs
 
 returns-3 : tie.Need-returns-3
 unfolding lineOf verdictLine
-returns-3 c = rw (c .before .before .before .before .before .verdict .given .1) (c .before .before .refusal .ensures)
+returns-3 c = rw (c .before .before .before .before .before .verdict .given .1) (c .before .before .refusal-line .ensures)
 
 pub line-spec : {M : Type 1} → statement M
 line-spec =
@@ -60,7 +60,7 @@ line-spec =
     slice-aggregate-write-2
     write-requires-2
     enum-known-verdict
-    refusal-requires
+    refusal-line-requires
     same-length
     returns
     same-length-2

@@ -17,25 +17,19 @@ digits-requires : tie.Need-digits-requires
 digits-requires c κs = search needs
 
 name-requires : tie.Need-name-requires
-name-requires c κs = let a = c .before .before .before .before .before .before .before .before .before .before .before .args in omega (arith, digits-short 20 (a .number))
+name-requires c κs = omega (arith, digits-short 20 (c .before .before .before .before .before .before .before .before .before .before .before .args .number))
 
 digits-requires-2 : tie.Need-digits-requires-2
-digits-requires-2 c κs = let a = c .before .before .before .before .before .before .before .before .before .before .before .before .before .before .before .args in omega (arith, digits-short 20 (a .number), name-short (a .paper))
+digits-requires-2 c κs = omega (arith, digits-short 20 (c .before .before .before .before .before .before .before .before .before .before .before .before .before .before .before .args .number), name-short (c .before .before .before .before .before .before .before .before .before .before .before .before .before .before .before .args .paper))
 
 slice-aggregate-write-2 : tie.Need-slice-aggregate-write-2
 slice-aggregate-write-2 c = search needs
 
 write-requires-2 : tie.Need-write-requires-2
-write-requires-2 c κs = let a = c .before .before .before .before .before .before .before .before .before .before .before .before .before .before .before .before .before .before .before .before .args in omega (arith, digits-short 20 (a .number), name-short (a .paper), digits-short 20 (a .place))
+write-requires-2 c κs = omega (arith, digits-short 20 (c .before .before .before .before .before .before .before .before .before .before .before .before .before .before .before .before .before .before .before .before .args .number), name-short (c .before .before .before .before .before .before .before .before .before .before .before .before .before .before .before .before .before .before .before .before .args .paper), digits-short 20 (c .before .before .before .before .before .before .before .before .before .before .before .before .before .before .before .before .before .before .before .before .args .place))
 
 digits-requires-3 : tie.Need-digits-requires-3
-digits-requires-3 c κs = let a = c .before .before .before .before .before .before .before .before .before .before .before .before .before .before .before .before .before .before .before .before .before .before .before .before .args in omega (arith, digits-short 20 (a .number), name-short (a .paper), digits-short 20 (a .place))
-
-slice-aggregate-write-3 : tie.Need-slice-aggregate-write-3
-slice-aggregate-write-3 c = search needs
-
-write-requires-3 : tie.Need-write-requires-3
-write-requires-3 c κs = let a = c .before .before .before .before .before .before .before .before .before .before .before .before .before .before .before .before .before .before .before .before .before .before .before .before .before .before .before .before .before .args in omega (arith, digits-short 20 (a .number), name-short (a .paper), digits-short 20 (a .place), digits-short 20 (a .count))
+digits-requires-3 c κs = omega (arith, digits-short 20 (c .before .before .before .before .before .before .before .before .before .before .before .before .before .before .before .before .before .before .before .before .before .before .before .before .args .number), name-short (c .before .before .before .before .before .before .before .before .before .before .before .before .before .before .before .before .before .before .before .before .before .before .before .before .args .paper), digits-short 20 (c .before .before .before .before .before .before .before .before .before .before .before .before .before .before .before .before .before .before .before .before .before .before .before .before .args .place))
 
 same-length : tie.Need-same-length
 same-length c = search needs
@@ -43,14 +37,13 @@ same-length c = search needs
 returns : tie.Need-returns
 unfolding refusalOf decimal
 returns c =
-    let a = c .before .before .before .before .before .before .before .before .before .before .before .before .before .before .before .before .before .before .before .before .before .before .before .before .before .before .before .before .before .before .before .before .args in
+    let a = c .before .before .before .before .before .before .before .before .before .before .before .before .before .before .before .before .before .before .before .before .before .before .before .before .before .before .before .args in
     let t = a .out .now in
-    let w2 = wrote-more t _ (decimal (a .number)) (c .before .before .before .before .before .before .before .before .before .before .before .before .before .before .before .before .before .before .before .before .before .before .before .before .before .before .before .before .write .ensures) (c .before .before .before .before .before .before .before .before .before .before .before .before .before .before .before .before .before .before .before .before .before .before .before .before .digits .ensures) in
-    let w3 = wrote-more t _ (nameOf (a .paper)) w2 (c .before .before .before .before .before .before .before .before .before .before .before .before .before .before .before .before .before .before .before .before .name .ensures) in
-    let w4 = wrote-more t _ (decimal (a .place)) w3 (c .before .before .before .before .before .before .before .before .before .before .before .before .before .before .before .before .digits2 .ensures) in
-    let w5 = wrote-more t _ (32 ∷ []) w4 (c .before .before .before .before .before .before .before .before .before .before .before .write2 .ensures) in
-    let w6 = wrote-more t _ (decimal (a .count)) w5 (c .before .before .before .before .before .before .before .digits3 .ensures) in
-    wrote-more t _ (10 ∷ []) w6 (c .before .before .write3 .ensures)
+    let w2 = wrote-more t _ (decimal (a .number)) (c .before .before .before .before .before .before .before .before .before .before .before .before .before .before .before .before .before .before .before .before .before .before .before .write .ensures) (c .before .before .before .before .before .before .before .before .before .before .before .before .before .before .before .before .before .before .before .digits .ensures) in
+    let w3 = wrote-more t _ (nameOf (a .paper)) w2 (c .before .before .before .before .before .before .before .before .before .before .before .before .before .before .before .name .ensures) in
+    let w4 = wrote-more t _ (decimal (a .place)) w3 (c .before .before .before .before .before .before .before .before .before .before .before .digits2 .ensures) in
+    let w5 = wrote-more t _ (32 ∷ []) w4 (c .before .before .before .before .before .before .write2 .ensures) in
+    wrote-more t _ (decimal (a .count)) w5 (c .before .before .digits3 .ensures)
 
 pub refusal-spec : {M : Type 1} → statement M
 refusal-spec =
@@ -64,7 +57,5 @@ refusal-spec =
     slice-aggregate-write-2
     write-requires-2
     digits-requires-3
-    slice-aggregate-write-3
-    write-requires-3
     same-length
     returns)

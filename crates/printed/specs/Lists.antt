@@ -1,0 +1,47 @@
+-- What is printed of the answers entry and of `shown`: the reply's text, and then words in decimal.
+-- A letter is its number in ASCII: 32 the space, 58 the colon, 10 the line feed.
+use Prim.Native.Nat.{ℕ}
+use mathlib.Core.List.{List, [], _∷_, _++_}
+use lib.ListN.{length}
+use Rattle.reply.specs.Shown.{shownOf}
+use Rattle.reply.specs.declared.Paper.{Paper}
+use Rattle.reply.specs.declared.Paper.the-variants.{Dossier}
+use Rattle.reply.specs.declared.Verdict.the-variants.{Opaque}
+use Rattle.reply.specs.declared.Reply.{Reply}
+use Rattle.judging.specs.Answers.{answersOf, tableAfter}
+use Rattle.judging.specs.declared.Answered.{Answered}
+use Rattle.judging.specs.declared.Answered.the-variants.{Count, Refused}
+use Rattle.text.specs.Line.{digitsOf, decimal, refusalOf}
+
+-- a word after a space; a number below 65,536 has at most 5 digits
+unfoldable pub spaced : ℕ → List ℕ
+spaced w = (32 ∷ []) ++ digitsOf 5 w
+
+unfoldable pub spacedAll : List ℕ → List ℕ
+spacedAll [] = []
+spacedAll (w ∷ ws) = spaced w ++ spacedAll ws
+
+-- a colon after a space, the words, and a line feed
+unfoldable pub listOf : List ℕ → List ℕ
+listOf ws = (32 ∷ 58 ∷ []) ++ spacedAll ws ++ (10 ∷ [])
+
+-- ANSWERS and the count, or the refusal, which is about the dossier
+unfoldable pub answersHead : Answered → List ℕ
+answersHead (Count n) = (65 ∷ 78 ∷ 83 ∷ 87 ∷ 69 ∷ 82 ∷ 83 ∷ 32 ∷ []) ++ decimal n
+answersHead (Refused number place count) = refusalOf number Dossier place count
+
+-- the line of the answers entry for the dossier d and the lent table t: the reply, and the table after it
+unfoldable pub answersLine : List ℕ → List ℕ → List ℕ
+answersLine d t = answersHead (answersOf d t) ++ listOf (tableAfter d t)
+
+-- a reply that asks for so many words of a paper from a place on; `shown` does not read the verdict
+unfoldable pub asking : Paper → ℕ → ℕ → Reply
+asking paper place count = record { verdict = Opaque; paper = paper; place = place; count = count }
+
+-- SHOWN, how many words, and the words
+unfoldable pub shownHead : List ℕ → List ℕ
+shownHead ws = (83 ∷ 72 ∷ 79 ∷ 87 ∷ 78 ∷ 32 ∷ []) ++ decimal (length ws)
+
+-- the line of the words that the reply shows of the dossier d and the certificate c
+unfoldable pub shownLine : List ℕ → List ℕ → Reply → List ℕ
+shownLine d c reply = shownHead (shownOf d c reply) ++ listOf (shownOf d c reply)

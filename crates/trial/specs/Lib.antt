@@ -1,0 +1,2 @@
+pub mod Case
+pub mod Line
