@@ -6,7 +6,7 @@ ghost use mathlib.Core.Path.{_≡_};
 ghost use mathlib.Core.Bool.{not, true, false};
 ghost use Prim.Native.Nat.{ℕ, _+_, _≤_, _<_};
 ghost use lib.ListN.{length, replicate, set};
-ghost use Rattle.meaning.specs.Tests.{_∈_, _and_, _or_, all, any, choose};
+ghost use Rattle.meaning.specs.Tests.{_∈_, _and_, _or_, _is_, all, any, choose};
 ghost use Rattle.meaning.specs.Formula.{read};
 ghost use Rattle.promise.specs.Place.{part, many, Fit, Starts, filled};
 ghost use Rattle.promise.specs.Formula.{FormulaFits, formulaAt, formulaEnd, EntryFits, entry};
@@ -263,6 +263,13 @@ fn grows(old: &[u8], new: &[u8]) -> bool
     false
 }
 
+// The truth of two operands joined by the word x: 258 is and, 259 or.
+fn joined(x: usize, a: bool, b: bool) -> bool
+    ensures { λ r. ⌜ r ≡ choose (x is 258) (a and b) (a or b) ⌝ }
+{
+    if x == 258 { both(a, b) } else { either(a, b) }
+}
+
 // A truth, and the place after the formula.
 pub struct Truth {
     pub holds: bool,
@@ -298,14 +305,8 @@ fn truth_at(s: &[u16], at: usize, deep: usize, table: &[u8]) -> Truth
     let g = truth_at(s, h, less, table);
     let u = g.holds;
     let z = g.next;
-    if x == 258 {
-        return Truth {
-            holds: both(v, u),
-            next: z,
-        };
-    }
     Truth {
-        holds: either(v, u),
+        holds: joined(x, v, u),
         next: z,
     }
 }

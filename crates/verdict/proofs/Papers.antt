@@ -108,17 +108,19 @@ many-take K ws p k zero h = refl
 many-take K ws p zero (suc j) h = absurd (omega arith)
 many-take {A} K ws p (suc k) (suc j) h = ap {B = List A} (λ l. K .read ws p ∷ l) (many-take K ws (K .next ws p) k j (omega arith))
 
+-- the first n of k lines
+module _ (s : List ℕ) {lines : List ℕ} {k : ℕ} (t : Starts (line .next s) 2 k lines) (n : ℕ) (h : n ≤ k) where
+  pub first-fit : Fit line s 2 k → Fit line s 2 n
+  unfolding Fit
+  first-fit f i g = f i (omega arith)
+
+  pub first-starts : Starts (line .next s) 2 n lines
+  first-starts = record { long = omega (arith, t .long); each = λ i g. t .each i (omega arith) }
+
 module _ (d : List ℕ) (o : Layout) (s lines : List ℕ) (k : ℕ) (t : Starts (line .next s) 2 k lines) (j : ℕ) (h : j < k) where
   pub line-fits : Fit line s 2 k → LineFits s (getD lines j 0)
   unfolding Fit
   line-fits f = rw (t .each j h) (f j h)
-
-  pub earlier-fit : Fit line s 2 k → Fit line s 2 j
-  unfolding Fit
-  earlier-fit f i g = f i (omega arith)
-
-  pub earlier-starts : Starts (line .next s) 2 j lines
-  earlier-starts = record { long = omega (arith, t .long); each = λ i g. t .each i (omega arith) }
 
   pub line-at : {b : Bool} → b ≡ follows (dossierAt d o) (many line s 2 j) (lineOf s (lineAt s (getD lines j 0)) .literals) (lineOf s (lineAt s (getD lines j 0)) .rule) → b ≡ lineFollows (dossierAt d o) (many line s 2 k) j
   unfolding lineFollows named earlier

@@ -5,7 +5,7 @@ use Rattle.promise.specs.Layout.{dossierAt}
 use Rattle.promise.specs.Line.{line}
 use Rattle.promise.specs.Place.{many}
 use Rattle.verdict.proofs.Lowest.{From, from-start, from-next, from-fault, from-end}
-use Rattle.verdict.proofs.Papers.{line-fits, earlier-fit, earlier-starts, line-at}
+use Rattle.verdict.proofs.Papers.{first-fit, first-starts, line-fits, line-at}
 use Rattle.verdict.specs.Told.{asFault}
 use borrow.Author.Needs.{needs}
 use borrow.Author.Tests.{not-true, not-false}
@@ -35,7 +35,7 @@ line-follows-requires : tie.Need-line-follows-requires Inv-loop μ-loop
 line-follows-requires c κs =
     let start = c .before .before .before .before .before .before .before .before .before .before in
     let a = start .args in
-    (start .pre .0, earlier-starts (a .d .now) (a .o) (a .s .now) (a .lines .now) (a .k) (start .pre .1) (c .before .before .loop .j) (c .before .loop-test .taken), earlier-fit (a .d .now) (a .o) (a .s .now) (a .lines .now) (a .k) (start .pre .1) (c .before .before .loop .j) (c .before .loop-test .taken) (start .pre .2), line-fits (a .d .now) (a .o) (a .s .now) (a .lines .now) (a .k) (start .pre .1) (c .before .before .loop .j) (c .before .loop-test .taken) (start .pre .2))
+    (start .pre .0, first-starts (a .s .now) (start .pre .1) _ (omega arith), first-fit (a .s .now) (start .pre .1) _ (omega arith) (start .pre .2), line-fits (a .d .now) (a .o) (a .s .now) (a .lines .now) (a .k) (start .pre .1) (c .before .before .loop .j) (c .before .loop-test .taken) (start .pre .2))
 
 returns : tie.Need-returns Inv-loop μ-loop
 unfolding asFault
