@@ -1,7 +1,9 @@
 // Words, and rising lists of them, read at a position: what every reader of a paper shares.
 ghost use mathlib.Core.Path.{_≡_};
+ghost use lib.ListN.{length};
 ghost use Rattle.words.specs.Read.{ranged, next, rising, listed};
 ghost use Rattle.words.specs.Answer.{asStep, asGot, asLow, tested};
+ghost use Rattle.words.specs.declared.Got.the-variants.{Stop};
 
 // The next position, or the refusal: its number, its place, and how many words it shows.
 pub enum Step {
@@ -21,12 +23,19 @@ pub enum Range {
     Below(usize, u16),
 }
 
+// 1: a word is needed and the paper has ended.
+fn ended(s: &[u16]) -> Got
+    ensures { λ r. ⌜ r ≡ Stop 1 (length (now (s .entry))) 0 ⌝ }
+{
+    Got::Stop(1, s.len(), 0)
+}
+
 // The word at `at`, which is to be at least lo and below hi; else refusal e.
 pub fn word_in(s: &[u16], at: usize, lo: usize, hi: usize, e: u16) -> Got
     ensures { λ r. ⌜ r ≡ asGot (ranged lo hi e (now (s .entry)) at) ⌝ }
 {
     if s.len() <= at {
-        return Got::Stop(1, s.len(), 0);
+        return ended(s);
     }
     let x = s[at] as usize;
     if x < lo {
@@ -65,7 +74,7 @@ fn next_word(s: &[u16], p: usize, low: usize, range: Range) -> Got
     ensures { λ r. ⌜ r ≡ asLow (next range low (now (s .entry)) p) ⌝ }
 {
     if s.len() <= p {
-        return Got::Stop(1, s.len(), 0);
+        return ended(s);
     }
     let x = s[p] as usize;
     match in_range(range, x) {

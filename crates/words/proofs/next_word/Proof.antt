@@ -1,13 +1,16 @@
 -- `words::next_word` meets its contract: at each `return` the tests that led there say which case of `next` holds.
 use native.Mathlib.Omega.{arith}
-use mathlib.Core.Path.{sym}
+use mathlib.Core.Path.{sym, _∙_}
 use Rattle.words.proofs.Steps.{next-past, next-range, next-order, next-on}
 use borrow.Author.Needs.{needs}
 use Rattle.words.proofs.next_word.Statement.{statement}
 use Rattle.words.proofs.next_word.Tie as tie
 
+ended-requires : tie.Need-ended-requires
+ended-requires c κs = search needs
+
 returns : tie.Need-returns
-returns c = sym (next-past _ _ _ _ (c .if1 .taken))
+returns c = c .ended .ensures ∙ sym (next-past _ _ _ _ (c .before .if1 .taken))
 
 mul-x : tie.Need-mul-x
 mul-x c = search needs
@@ -43,6 +46,7 @@ pub next-word-spec : {M : Type 1} → statement M
 next-word-spec =
     tie.close
     (tie.spec
+    ended-requires
     returns
     mul-x
     shared-slice-read-x
