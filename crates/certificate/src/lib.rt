@@ -57,15 +57,15 @@ fn spoken_at(s: &[u16], first: usize, count: usize, p: usize) -> bool
     ensures { λ r. ⌜ r ≡ read.spoken (seen.saidOf (now (s .entry)) (seen.literalAt (now (s .entry)) p)) (many seen.literal (now (s .entry)) first count) ⌝ }
 {
     let l = promise::literal_at(s, p);
-    let mut left = count;
+    let mut unseen = count;
     let mut at = first;
-    while 0 < left {
+    while 0 < unseen {
         let x = promise::literal_at(s, at);
         if promise::same_said(s, x, s, l) {
             return true;
         }
         at = x.next;
-        left -= 1;
+        unseen -= 1;
     }
     false
 }

@@ -12,10 +12,10 @@ use Rattle.certificate.proofs.spoken_at.Statement.{statement}
 use Rattle.certificate.proofs.spoken_at.Tie as tie
 
 abbrev Inv-loop : tie.InvT-loop
-Inv-loop s first count p l left₀ at₀ left at = Fit literal s at left × (spoken (saidOf s (literalAt s p)) (many literal s first count) ≡ spoken (saidOf s (literalAt s p)) (many literal s at left))
+Inv-loop s first count p l unseen₀ at₀ unseen at = Fit literal s at unseen × (spoken (saidOf s (literalAt s p)) (many literal s first count) ≡ spoken (saidOf s (literalAt s p)) (many literal s at unseen))
 
 abbrev μ-loop : tie.MeasureT-loop
-μ-loop s first count p l left₀ at₀ left at = left
+μ-loop s first count p l unseen₀ at₀ unseen at = unseen
 
 literal-at-requires : tie.Need-literal-at-requires Inv-loop μ-loop
 literal-at-requires c κs = search needs
@@ -36,8 +36,8 @@ same-said-requires c κs =
 returns : tie.Need-returns Inv-loop μ-loop
 returns c = sym (c .before .before .before .before .loop .inv .1 ∙ spoken-yes _ _ _ _ (c .before .before .before .loop-test .taken) (rw (c .before .before .before .before .before .literal-at .ensures, c .before .before .literal-at2 .ensures) at (c .before .same-said .ensures)) (c .if1 .taken))
 
-sub-left : tie.Need-sub-left Inv-loop μ-loop
-sub-left c = search needs
+sub-unseen : tie.Need-sub-unseen Inv-loop μ-loop
+sub-unseen c = search needs
 
 loop-less : tie.Need-loop-less Inv-loop μ-loop
 loop-less c = search needs
@@ -47,7 +47,7 @@ loop-again c =
     let a = c .before .before .before .before .before .before .before .args in
     let x = c .before .before .literal-at2 .ensures in
     rw (ap (λ (v : LiteralAt). v .next) x) (
-      fit-on literal (a .s .now) (c .before .before .before .before .loop .at) (c .before .before .before .before .loop .left) (c .before .before .before .loop-test .taken) (c .before .before .before .before .loop .inv .0),
+      fit-on literal (a .s .now) (c .before .before .before .before .loop .at) (c .before .before .before .before .loop .unseen) (c .before .before .before .loop-test .taken) (c .before .before .before .before .loop .inv .0),
       c .before .before .before .before .loop .inv .1 ∙ spoken-on _ _ _ _ (c .before .before .before .loop-test .taken) (rw (c .before .before .before .before .before .literal-at .ensures, x) at (c .before .same-said .ensures)) (c .if1 .left),
     )
 
@@ -65,7 +65,7 @@ spoken-at-spec =
     literal-at-requires-2
     same-said-requires
     returns
-    sub-left
+    sub-unseen
     loop-less
     loop-again
     returns-2)
