@@ -11,7 +11,6 @@ use Rattle.meaning.specs.Verdict.{tried}
 use Rattle.meaning.proofs.Demands.{notBoth, witnessShows}
 use Rattle.meaning.proofs.Example.{t1, t2, p, witness-example}
 use Rattle.promise.specs.Code.{codeDossier, codeCertificate}
-use Rattle.promise.specs.Form.{DossierForm}
 use Rattle.dossier.specs.Read.{dossier}
 use Rattle.dossier.proofs.Promise.{dossierSound}
 use Rattle.certificate.specs.Read.{certificate}
@@ -24,7 +23,7 @@ use Rattle.reply.specs.declared.Verdict.the-variants.{Opaque, Detectable, Refus
 use Rattle.judging.specs.Judge.{judgeOf}
 use Rattle.judging.specs.Answers.{answersOf, tableAfter}
 use Rattle.judging.specs.Cases.{T1, T2, P, Holds}
-use Rattle.judging.specs.Demands.{SoundFor}
+use Rattle.judging.specs.Table.{Both}
 use Rattle.judging.specs.declared.Answered.{Answered}
 use Rattle.judging.specs.declared.Answered.the-variants as given
 use Rattle.judging.specs.declared.Answered.the-variants.{Count}
@@ -54,20 +53,14 @@ case-g : judgeOf T1 (1 ∷ 0 ∷ []) ≡ refused 14 dossierPaper 17 4
 unfolding Holds
 case-g = casesHold _ (List·Memᴰ·tail (List·Memᴰ·tail (List·Memᴰ·tail (List·Memᴰ·tail (List·Memᴰ·tail (List·Memᴰ·tail (List·Memᴰ·head refl)))))))
 
--- a table that is too short
-case-short : answersOf T1 [] ≡ given.Refused 18 0 0
+-- T2 has one probe
+one-answer : answersOf T2 (7 ∷ []) ≡ Count 1
 unfolding compute
-case-short = refl
+one-answer = refl
 
 -- ---- the papers, decoded
 
-pub record Decoded (d c : List ℕ) (D : Dossier) (C : Certificate) : Type 0 where
-  pub dossierWords : d ≡ codeDossier D
-  pub certificateWords : c ≡ codeCertificate C
-  pub form : DossierForm D
-  pub sound : SoundFor D C
-
-decoded : (d c : List ℕ) (D : Dossier) (C : Certificate) {k j : ℕ} → dossier d ≡ got D k → certificate (length (D .labels)) (length (D .creds)) c ≡ got C j → Decoded d c D C
+decoded : (d c : List ℕ) (D : Dossier) (C : Certificate) {k j : ℕ} → dossier d ≡ got D k → certificate (length (D .labels)) (length (D .creds)) c ≡ got C j → Both d c D C
 decoded d c D C {k} {j} e f =
     let a = dossierSound d D k e in
     let b = certificateSound (length (D .labels)) (length (D .creds)) c C j f in
@@ -76,24 +69,24 @@ decoded d c D C {k} {j} e f =
 two : Policy
 two = fact 2 ∷ []
 
-t1-two : Decoded T1 (1 ∷ 1 ∷ 2 ∷ 0 ∷ []) t1 (witness two)
+t1-two : Both T1 (1 ∷ 1 ∷ 2 ∷ 0 ∷ []) t1 (witness two)
 unfolding compute two
 t1-two = decoded T1 _ t1 (witness two) refl refl
 
-t1-none : Decoded T1 (1 ∷ 0 ∷ []) t1 (witness [])
+t1-none : Both T1 (1 ∷ 0 ∷ []) t1 (witness [])
 unfolding compute
 t1-none = decoded T1 _ t1 (witness []) refl refl
 
-t2-two : Decoded T2 (1 ∷ 1 ∷ 2 ∷ 0 ∷ []) t2 (witness two)
+t2-two : Both T2 (1 ∷ 1 ∷ 2 ∷ 0 ∷ []) t2 (witness two)
 unfolding compute two
 t2-two = decoded T2 _ t2 (witness two) refl refl
 
-t2-p : Decoded T2 P t2 (proof p)
+t2-p : Both T2 P t2 (proof p)
 unfolding compute
 t2-p = decoded T2 P t2 (proof p) refl refl
 
 -- what a build says of the decoded papers' codes it says of their words
-said : (f : List ℕ → List ℕ → Reply) {d c : List ℕ} {D : Dossier} {C : Certificate} {r : Reply} → Decoded d c D C → f (codeDossier D) (codeCertificate C) ≡ r → f d c ≡ r
+said : (f : List ℕ → List ℕ → Reply) {d c : List ℕ} {D : Dossier} {C : Certificate} {r : Reply} → Both d c D C → f (codeDossier D) (codeCertificate C) ≡ r → f d c ≡ r
 said f w h = ap₂ f (w .dossierWords) (w .certificateWords) ∙ h
 
 -- ---- what the builds find in them
@@ -114,9 +107,9 @@ kind (Refused e) = 2
 kindOf : Reply → ℕ
 kindOf r = kind (r .verdict)
 
-isCount : Answered → ℕ
-isCount (Count k) = 1
-isCount (given.Refused e p w) = 0
+countIn : Answered → ℕ
+countIn (Count k) = k
+countIn (given.Refused e p w) = 0
 
 module _ (f : List ℕ → List ℕ → Reply) where
   broken : Broken f
@@ -133,11 +126,14 @@ module _ (f : List ℕ → List ℕ → Reply) where
 
 module _ (f : List ℕ → List ℕ → Answered) (after : List ℕ → List ℕ → List ℕ) where
   brokenAnswers : BrokenAnswers f after
-  unfolding isCount
+  unfolding countIn compute
   brokenAnswers =
       record {
         untouched = λ keeps h. let z : _≡_ {A = ℕ} 7 1 = ap (λ (l : List ℕ). getD l 0 0) (sym (h T1 (7 ∷ 7 ∷ 7 ∷ [])) ∙ keeps T1 (7 ∷ 7 ∷ 7 ∷ []) .1 ∙ case-a .1) in omega arith;
-        invented = λ keeps k h. let z : _≡_ {A = ℕ} 1 0 = ap isCount (sym (h T1 []) ∙ keeps T1 [] .0 ∙ case-short) in omega arith;
+        invented = λ keeps k h.
+            let a : 2 ≡ k = ap countIn (sym (keeps T1 (7 ∷ 7 ∷ 7 ∷ []) .0 ∙ case-a .0) ∙ ap (λ (d : List ℕ). f d (7 ∷ 7 ∷ 7 ∷ [])) (t1-two .dossierWords) ∙ h t1 (7 ∷ 7 ∷ 7 ∷ []) (t1-two .form) (omega arith)) in
+            let b : 1 ≡ k = ap countIn (sym (keeps T2 (7 ∷ []) .0 ∙ one-answer) ∙ ap (λ (d : List ℕ). f d (7 ∷ [])) (t2-two .dossierWords) ∙ h t2 (7 ∷ []) (t2-two .form) (omega arith)) in
+            omega arith;
       }
 
 pub emptyBuilds : EmptyBuilds

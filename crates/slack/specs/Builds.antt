@@ -1,8 +1,9 @@
 -- "These empty builds have to break the promise": no function that keeps the promise of `judge` or of `answers` is one of them.
-use Prim.Native.Nat.{ℕ}
+use Prim.Native.Nat.{ℕ, _≤_}
 use mathlib.Core.Path.{_≡_}
 use mathlib.Core.Bool.{true, false}
 use mathlib.Core.List.{List}
+use lib.ListN.{length}
 use Rattle.meaning.specs.Tests.{_∈_}
 use Rattle.meaning.specs.Policy.{Policy}
 use Rattle.meaning.specs.Papers.{Entry, Dossier, visible, answer, Line, witness, proof}
@@ -77,8 +78,8 @@ KeepsAnswers f after = (d t : List ℕ) → (f d t ≡ answersOf d t) × (after 
 pub record BrokenAnswers (f : List ℕ → List ℕ → Answered) (after : List ℕ → List ℕ → List ℕ) : Type 0 where
   -- "one that leaves the answers table untouched"
   pub untouched : KeepsAnswers f after → ((d t : List ℕ) → after d t ≡ t) → ⊥
-  -- "or gives an invented count": one that does not depend on the dossier
-  pub invented : KeepsAnswers f after → (k : ℕ) → ((d t : List ℕ) → f d t ≡ Count k) → ⊥
+  -- "or gives an invented count": the same for every sound dossier and every table that is long enough
+  pub invented : KeepsAnswers f after → (k : ℕ) → ((D : Dossier) (t : List ℕ) → DossierForm D → length (D .probes) ≤ length t → f (codeDossier D) t ≡ Count k) → ⊥
 
 pub record EmptyBuilds : Type 0 where
   pub judge : (f : List ℕ → List ℕ → Reply) → Broken f

@@ -34,7 +34,8 @@ use Rattle.evaluation.specs.declared.Answer.{Answer}
 use Rattle.evaluation.specs.declared.Answer.the-variants.{No, Yes, Unsettled}
 use Rattle.evaluation.specs.declared.Which.the-variants.{Tried}
 use Rattle.evaluation.proofs.Entry.{answer-sure}
-use Rattle.verdict.specs.Told.{showing, replyAt, asFault, faultAt, ProbeStarts}
+use Rattle.lines.specs.Ready.{ProbeStarts}
+use Rattle.verdict.specs.Told.{showing, replyAt, asFault, faultAt}
 use Rattle.verdict.specs.declared.Fault.{Fault}
 use Rattle.verdict.proofs.Fault.{the-type}
 use Rattle.verdict.specs.declared.Fault.the-variants as fault

@@ -32,7 +32,8 @@ use Rattle.evaluation.specs.Answer.{answerOf, answerWord, wordOf}
 use Rattle.evaluation.specs.declared.Answer.{Answer}
 use Rattle.evaluation.specs.declared.Which.the-variants.{Tried}
 use Rattle.evaluation.proofs.Entry.{answer-sure, sure-word, bit-small}
-use Rattle.verdict.specs.Told.{showing, ProbeStarts, Told}
+use Rattle.lines.specs.Ready.{ProbeStarts}
+use Rattle.verdict.specs.Told.{showing, Told}
 
 -- ---- a probe
 

@@ -26,7 +26,8 @@ use Rattle.promise.specs.declared.Thing.the-variants as thing
 use Rattle.promise.proofs.Place.{filled-at, filled-length, many-at, many-past}
 use Rattle.evaluation.specs.Answer.{answerWord}
 use Rattle.lines.specs.Ready as rules
-use Rattle.verdict.specs.Told.{replyAt, sizeOf, ProbeStarts, Told}
+use Rattle.lines.specs.Ready.{ProbeStarts}
+use Rattle.verdict.specs.Told.{replyAt, sizeOf, Told}
 
 module _ (d : List ℕ) (o : Layout) (l : Laid d o) where
   pub clauses-fit : FitOf thing.Clause d (o .clauses) (o .nclauses)

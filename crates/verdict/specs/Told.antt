@@ -6,9 +6,8 @@ use mathlib.Core.List.{List}
 use mathlib.Core.Option.{Option, none, some}
 use lib.ListN.{length, getD}
 use Rattle.meaning.specs.Verdict.{Outcome, opaque, detectable, probeDiffers, secretTrue, lineFails, lastNotEmpty}
-use Rattle.promise.specs.Place.{place, Starts}
+use Rattle.promise.specs.Place.{place}
 use Rattle.promise.specs.Thing.{nextOf}
-use Rattle.promise.specs.Formula.{entry}
 use Rattle.promise.specs.declared.Layout.{Layout}
 use Rattle.promise.specs.declared.Proposal.{Proposal}
 use Rattle.promise.specs.declared.Proposal.the-variants.{Witness, Proof}
@@ -51,10 +50,7 @@ unfoldable pub faultAt : Bool → ℕ → Fault
 faultAt true j = fault.Nowhere
 faultAt false j = fault.At j
 
--- a table of where each probe begins, and one with the policy's answer to each
-abbrev pub ProbeStarts : List ℕ → Layout → List ℕ → Type 0
-ProbeStarts d o t = Starts (entry (o .atoms) (o .ncreds) .next d) (o .probes) (o .nprobes) t
-
+-- a table that has the policy's answer to each probe
 pub record Told (d : List ℕ) (o : Layout) (told : List ℕ) : Type 0 where
   pub long : o .nprobes ≤ length told
   pub each : (j : ℕ) → j < o .nprobes → getD told j 0 ≡ answerWord d o j

@@ -21,13 +21,14 @@ ghost use Rattle.promise.specs.Line.{lineAt, line};
 ghost use Rattle.promise.specs.declared.Thing.the-variants as thing;
 ghost use Rattle.meaning.specs.Rules.{lineFollows};
 ghost use Rattle.lines.specs.Ready as rules;
+ghost use Rattle.lines.specs.Ready.{ProbeStarts};
 ghost use Rattle.promise.specs.Thing.{nextOf, okOf};
 ghost use Rattle.evaluation.specs.Which.{Ready};
 ghost use Rattle.evaluation.specs.declared.Which.the-variants.{Tried};
 ghost use Rattle.reply.specs.Answer.{accepted, refused};
 ghost use Rattle.reply.specs.declared.Paper.the-variants as paper;
 ghost use Rattle.reply.specs.declared.Verdict.the-variants as verdict;
-ghost use Rattle.verdict.specs.Told.{showing, replyAt, sizeOf, asFault, faultAt, ProbeStarts, Told};
+ghost use Rattle.verdict.specs.Told.{showing, replyAt, sizeOf, asFault, faultAt, Told};
 
 // The lowest number at fault, if there is one; or that 64 rounds were not enough.
 pub enum Fault {
