@@ -1,4 +1,5 @@
--- 01's table of refusals ("What the reply says"), the rows of form: 1 to 13. The words are those of one paper, ws.
+-- 01's table of refusals ("What the reply says"), the rows of form: 1 to 13, as facts of the words shown. The words are those of one paper, ws.
+-- A row does not say what is due at its place (which count, an atom, a mark): that is what reading from left to right says, in the readers' specs/Read.antt.
 -- N n says that the dossier has n atoms, M m that it has m credentials; Whole us that the words us are a whole paper.
 use Prim.Native.Nat.{ℕ, _+_, _≤_, _<_}
 use mathlib.Core.Path.{_≡_}
@@ -36,7 +37,7 @@ pub data Sheet : Type 0 where
 
 -- the rows that show a word: the number, and the place of the word
 pub data Wrong (N M : ℕ → Type 0) (Whole : List ℕ → Type 0) (ws : List ℕ) : Sheet → ℕ → ℕ → Type 0 where
-  -- 2: "a count or length outside its limits"
+  -- 2: "a count or length outside its limits". Of some count of 01: since the secret's must be 1, this holds of every word but 1.
   limits : {s : Sheet} {p lo hi : ℕ} → Limits lo hi → (lo ≤ getD ws p 0 → getD ws p 0 ≤ hi → ⊥) → Wrong N M Whole ws s 2 p
   -- 3: "an atom number not below n (in a formula, n to 255)"
   atom : {s : Sheet} {p n : ℕ} → N n → n ≤ getD ws p 0 → Wrong N M Whole ws s 3 p
