@@ -15,8 +15,7 @@ use Rattle.words.specs.Code.{codeAll, codeMany}
 use Rattle.words.specs.declared.Step.{Step}
 use Rattle.words.specs.declared.Step.the-variants.{Next, Refused}
 use Rattle.words.proofs.Steps.{refused, passed, step-made}
-use Rattle.words.proofs.Promise.{OK, ok-then, ok-made, ok-word, ok-more, In, inGot, inBad, Spans, spans-join, lies, past, Reads, reads-as, reads-ranged, reads-times}
-use Rattle.words.proofs.Shown.{told-inside}
+use Rattle.words.proofs.Promise.{OK, ok-then, ok-made, ok-word, ok-more, In, inGot, inBad, in-then, in-made, Spans, spans-join, lies, past, Reads, reads-as, reads-ranged, reads-times}
 use Rattle.meaning.specs.Tests.{_is_, choose}
 use Rattle.meaning.specs.Papers.{Rule, probe, secret, clause, assumed, credential, cut, without, resolve, Line}
 use Rattle.promise.specs.Code.{codeLiteral, numberOf, dataOf, codeLine}
@@ -26,7 +25,6 @@ use Rattle.promise.proofs.Seen.{first-word, next-words}
 use Rattle.promise.proofs.SeenLine.{data-count, number-some, lines-seen}
 use Rattle.certificate.specs.Read.{literals, line}
 use Rattle.certificate.proofs.Literals.{reads-literals}
-use Rattle.certificate.proofs.Refusals.{told-line}
 
 -- ---- data words: so many are there, or the paper ends before
 
@@ -70,7 +68,7 @@ module _ (n m : ℕ) (ws : List ℕ) (at : ℕ) where
 
 -- ---- what the reader of data words promises: their presence alone is tested
 
-reads-word : Reads word (λ x. x ∷ []) (λ x. Unit {0})
+pub reads-word : Reads word (λ x. x ∷ []) (λ x. Unit {0})
 reads-word =
     record {
       sound = λ ws at. ok-more (ok-word ws at) (λ x p s. (s, tt));
@@ -82,12 +80,12 @@ reads-word =
     go ws at true q = let i : at + 1 ≤ length ws = omega (arith, ltb-true at (length ws) q) in inGot i
     go ws at false q = let i : length ws + 0 ≤ length ws = omega arith in inBad i
 
-code-words : (d : List ℕ) → codeAll (λ x. x ∷ []) d ≡ d
+pub code-words : (d : List ℕ) → codeAll (λ x. x ∷ []) d ≡ d
 unfolding codeAll
 code-words [] = refl
 code-words (x ∷ d) = ap (λ l. x ∷ l) (code-words d)
 
-reads-data : (k : ℕ) → Reads (times k word) (λ d. d) (λ d. length d ≡ k)
+pub reads-data : (k : ℕ) → Reads (times k word) (λ d. d) (λ d. length d ≡ k)
 reads-data k = reads-as (reads-times reads-word k) (λ d f. code-words d) (λ d. (λ f. f .0, λ f. (f, λ x i. tt)))
 
 -- the words from p on, as `ruleOf` names them
@@ -139,8 +137,15 @@ number-few (resolve u v i j) = omega arith
 
 pub reads-line : (n m : ℕ) → Reads (line n m) codeLine (LineForm n m)
 unfolding line
-reads-line n m = record { sound = sound; exact = exact; inside = λ ws at h. told-inside _ (told-line n m ws at) }
+reads-line n m = record { sound = sound; exact = exact; inside = inside }
   where
+    inside : (ws : List ℕ) (at : ℕ) → at ≤ length ws → In (length ws) (line n m ws at)
+    inside ws at h =
+        in-then _ (reads-ranged 1 9 12 .inside ws at h) (λ r p i.
+        in-then _ (reads-data (dataCount r) .inside ws p i) (λ d q j.
+        in-then _ (reads-ranged 0 9 2 .inside ws q j) (λ k t l.
+        in-made _ (reads-literals n m k .inside ws t l))))
+
     -- the code of a line whose rule is made of its number and its data words
     code : (ws : List ℕ) (at z r p : ℕ) (d rest tail : List ℕ) → 1 ≤ r → r < 9 → length d ≡ dataCount r → drop p ws ≡ d ++ rest → Spans ws at (r ∷ (d ++ tail)) z → Spans ws at (numberOf (ruleOf ws r p) ∷ (dataOf (ruleOf ws r p) ++ tail)) z
     code ws at z r p d rest tail a b e w s =

@@ -1,5 +1,5 @@
 -- What the reader of literals promises: that none speaks of a statement spoken of before (13) is that no two of a line speak of one.
-use Prim.Native.Nat.{ℕ, zero, suc, _+_}
+use Prim.Native.Nat.{ℕ, zero, suc, _+_, _≤_}
 use mathlib.Core.Path.{_≡_, refl, sym, ap, _∙_}
 use mathlib.Core.Bool.{true, false, not}
 use mathlib.Core.List.{List, [], _∷_, _++_, append-assoc, List·Memᴰ·head, List·Memᴰ·tail, List·Memᴰ·not-nil, List·Memᴰ·append-cases, List·Memᴰ·eq-of-singleton, Memᴰ·append-left, Memᴰ·append-right}
@@ -8,8 +8,7 @@ use native.Mathlib.Omega.{arith}
 use lib.ListN.{length, drop, length-append}
 use Rattle.words.specs.Out.{got}
 use Rattle.words.specs.Code.{codeAll}
-use Rattle.words.proofs.Promise.{OK, fine, ok-then, ok-made, ok-need, Spans, spans-none, spans-join, past, Reads, reads-as}
-use Rattle.words.proofs.Shown.{told-inside}
+use Rattle.words.proofs.Promise.{OK, fine, ok-then, ok-made, ok-need, In, inGot, in-then-ok, in-made, in-need, Spans, spans-none, spans-join, past, Reads, reads-as}
 use Rattle.meaning.specs.Tests.{_∈_, same}
 use Rattle.meaning.specs.Papers.{Statement, Literal}
 use Rattle.meaning.specs.Rules.{sameStatement}
@@ -19,7 +18,6 @@ use Rattle.promise.specs.Code.{codeLiteral}
 use Rattle.promise.specs.Form.{StatementForm, Apart}
 use Rattle.certificate.specs.Read.{spoken, literals}
 use Rattle.certificate.proofs.Items.{reads-literal}
-use Rattle.certificate.proofs.Refusals.{told-literals}
 
 -- ---- the test of 13
 
@@ -29,17 +27,17 @@ same-refl [] = refl
 same-refl (x ∷ l) = and-of (is-refl x) (same-refl l)
 
 -- none of these literals speaks of s
-abbrev Unspoken : Statement → List Literal → Type 0
+abbrev pub Unspoken : Statement → List Literal → Type 0
 Unspoken s ls = (x : Literal) → x ∈ ls → x .said ≡ s → ⊥
 
 module _ {s : Statement} {ls : List Literal} where
-  unspoken : spoken s ls ≡ false → Unspoken s ls
+  pub unspoken : spoken s ls ≡ false → Unspoken s ls
   unfolding spoken sameStatement
   unspoken h x m e =
       let r : sameStatement (x .said) s ≡ true = rw e (and-of (and-of (same-refl (s .creds)) (same-refl (s .atoms))) (is-refl (s .atom))) in
       clash (any-of (λ l. sameStatement (l .said) s) m r) h
 
-  not-spoken : Unspoken s ls → spoken s ls ≡ false
+  pub not-spoken : Unspoken s ls → spoken s ls ≡ false
   unfolding spoken
   not-spoken f = go (cases (spoken s ls))
     where
@@ -48,11 +46,11 @@ module _ {s : Statement} {ls : List Literal} where
       go (inr e) = e
 
 -- these literals, after those before
-abbrev Fresh : List Literal → List Literal → Type 0
+abbrev pub Fresh : List Literal → List Literal → Type 0
 Fresh before ls = ((x : Literal) → x ∈ ls → Unspoken (x .said) before) × Apart ls
 
 module _ (before : List Literal) (l : Literal) (ls : List Literal) where
-  fresh-cons : spoken (l .said) before ≡ false → Fresh (before ++ (l ∷ [])) ls → Fresh before (l ∷ ls)
+  pub fresh-cons : spoken (l .said) before ≡ false → Fresh (before ++ (l ∷ [])) ls → Fresh before (l ∷ ls)
   unfolding Apart
   fresh-cons h f = (each, (λ y m. f .0 y m l (Memᴰ·append-right before (List·Memᴰ·head refl)), f .1))
     where
@@ -60,7 +58,7 @@ module _ (before : List Literal) (l : Literal) (ls : List Literal) where
       each x (List·Memᴰ·head e) y m q = unspoken h y m (q ∙ ap (λ (z : Literal). z .said) e)
       each x (List·Memᴰ·tail k) y m q = f .0 x k y (Memᴰ·append-left (l ∷ []) m) q
 
-  fresh-apart : Fresh before (l ∷ ls) → (spoken (l .said) before ≡ false) × Fresh (before ++ (l ∷ [])) ls
+  pub fresh-apart : Fresh before (l ∷ ls) → (spoken (l .said) before ≡ false) × Fresh (before ++ (l ∷ [])) ls
   unfolding Apart
   fresh-apart f = (not-spoken (f .0 l (List·Memᴰ·head refl)), (each, f .1 .1))
     where
@@ -74,7 +72,7 @@ module _ (n m : ℕ) where
   abbrev LiteralsForm : ℕ → List Literal → List Literal → Type 0
   LiteralsForm k before ls = (length ls ≡ k) × (((x : Literal) → x ∈ ls → StatementForm n m (x .said)) × Fresh before ls)
 
-  each-cons : {l : Literal} {ls : List Literal} → StatementForm n m (l .said) → ((x : Literal) → x ∈ ls → StatementForm n m (x .said)) → (x : Literal) → x ∈ (l ∷ ls) → StatementForm n m (x .said)
+  pub each-cons : {l : Literal} {ls : List Literal} → StatementForm n m (l .said) → ((x : Literal) → x ∈ ls → StatementForm n m (x .said)) → (x : Literal) → x ∈ (l ∷ ls) → StatementForm n m (x .said)
   each-cons f g x (List·Memᴰ·head e) = rw e f
   each-cons f g x (List·Memᴰ·tail k) = g x k
 
@@ -101,10 +99,17 @@ module _ (n m : ℕ) where
       let t = exact-literals k (before ++ (l ∷ [])) ws (at + length a) ls rest (past ws at a i) (omega (arith, f .0), (λ y j. f .1 .0 y (List·Memᴰ·tail j), o .1)) in
       simp (reads-literal n m .exact ws at l (b ++ rest) i (f .1 .0 l (List·Memᴰ·head refl)), o .0, t) (ap (got (l ∷ ls)) z)
 
+  in-literals : (k : ℕ) (before : List Literal) (ws : List ℕ) (at : ℕ) → at ≤ length ws → In (length ws) (literals n m k before ws at)
+  unfolding literals
+  in-literals zero before ws at h = inGot h
+  in-literals (suc k) before ws at h =
+      in-then-ok _ (reads-literal n m .sound ws at) (reads-literal n m .inside ws at h) (λ l p s i.
+      in-need (not (spoken (l .said) before)) 13 at (omega (arith, s .0 .next)) (in-made _ (in-literals k (before ++ (l ∷ [])) ws p i)))
+
   -- so many literals of a line
   pub reads-literals : (k : ℕ) → Reads (literals n m k []) (codeAll codeLiteral) (λ ls. (length ls ≡ k) × (((x : Literal) → x ∈ ls → StatementForm n m (x .said)) × Apart ls))
   reads-literals k =
       reads-as
-      (record { sound = ok-literals k []; exact = exact-literals k []; inside = λ ws at h. told-inside _ (told-literals n m ws k at h) })
+      (record { sound = ok-literals k []; exact = exact-literals k []; inside = in-literals k [] })
       (λ ls f. refl)
       (λ ls. (λ f. (f .0, (f .1 .0, f .1 .1 .1)), λ f. (f .0, (f .1 .0, ((λ x i y j. absurd (List·Memᴰ·not-nil j)), f .1 .1)))))

@@ -1,87 +1,182 @@
 -- The theorems of specs/Promise.antt, each under its name in small letters.
-use Prim.Native.Nat.{ℕ, _+_, _<_, _≤_}
-use mathlib.Core.Path.{_≡_, refl, sym, ap, _∙_}
+use Prim.Native.Nat.{ℕ, zero, suc, _<_, _≤_}
+use mathlib.Core.Path.{_≡_, refl, sym, _∙_, subst₂}
 use mathlib.Core.Bool.{Bool, true, false}
-use mathlib.Core.List.{List, [], _∷_, _++_, append-nil}
-use mathlib.Core.Logic.{_⊎_, inl, inr, _↔_}
+use mathlib.Core.List.{List, [], _∷_}
+use mathlib.Core.Logic.{_↔_}
 use native.Mathlib.Omega.{arith}
-use lib.Dec.{leb, eqb}
-use lib.ListN.{length, getD, drop, length-append, drop-of-length-le}
-use lib.Seq.{drop-append-seam}
-use borrow.Author.Tests.{le-leb, leb-true, leb-false, eqb-true, eqb-false}
-use Rattle.words.specs.Out.{Out, got, bad, then}
-use Rattle.words.proofs.Promise.{OK, fine, none, ok-then, ok-need, ok-more, ok-got, Spans, spans-join, spans-whole, Reads, reads-ranged, reads-section}
-use Rattle.words.proofs.Parts.{reads-after}
-use Rattle.words.proofs.Shown.{Told, told-bad, told-then-ok, told-ranged, told-section, told-after}
-use Rattle.words.specs.Read.{section}
-use Rattle.meaning.specs.Tests.{_∈_, _is_, choose}
-use Rattle.meaning.specs.Policy.{Policy, Clause}
+use lib.Dec.{leb}
+use lib.ListN.{length}
+use borrow.Author.Tests.{le-leb, lt-leb, leb-true, leb-false}
+use Rattle.words.specs.Out.{Out, got, bad, then, made, after}
+use Rattle.words.specs.Code.{codeMany}
+use Rattle.words.specs.Read.{ranged, section}
+use Rattle.words.proofs.Promise.{OK, none, ok-more, ok-got, Reads, reads-as, reads-bind, reads-made, reads-ranged}
+use Rattle.meaning.specs.Tests.{_is_, choose}
+use Rattle.meaning.specs.Policy.{Policy}
 use Rattle.meaning.specs.Papers.{Line, Certificate, witness, proof}
-use Rattle.promise.specs.Code.{codeCertificate}
+use Rattle.promise.specs.Code.{codeClause, codeLine, codeCertificate}
 use Rattle.promise.specs.Form.{ClauseForm, LineForm, PartsForm, CertificateForm}
-use Rattle.promise.specs.Table as table
-use Rattle.promise.specs.Table.{Sheet, Wrong, FormRow, WholeCertificate, CertificateRow}
-use Rattle.promise.proofs.Table.{None, wrong-moved, wrong-limit}
+use Rattle.promise.specs.Due.{What, one, kind, InSection, SectionForm, InClause, InLine, InCertificate}
+use Rattle.promise.specs.Table.{Wrong, CertificateRow, long, form}
+use Rattle.promise.proofs.Refused.{Refuses, refuses-as, refuses-made, Seq, first, second, refuses-then, Only, only}
+use Rattle.promise.proofs.Due.{refuses-ranged}
 use Rattle.dossier.specs.Read.{clause, ended}
-use Rattle.dossier.proofs.Refusals.{told-clause, told-ended}
 use Rattle.dossier.proofs.Items.{reads-clause}
+use Rattle.dossier.proofs.Refusals.{refuses-clause}
+use Rattle.dossier.proofs.Rows.{reads-part, refuses-part, ok-whole, exact-whole, refused-row, row-refused}
 use Rattle.certificate.specs.Read.{line, witnessFrom, proofFrom, proposal, certificate}
-use Rattle.certificate.specs.Promise.{CertificateSound, CertificateAccepted, CertificateOnce, CertificateMore, CertificateShows}
+use Rattle.certificate.specs.Promise.{CertificateSound, CertificateAccepted, CertificateOnce, CertificateMore, CertificateShows, CertificateRows}
 use Rattle.certificate.proofs.Lines.{reads-line}
-use Rattle.certificate.proofs.Refusals.{told-line}
+use Rattle.certificate.proofs.Refusals.{refuses-line}
 
--- what may be wrong with a word of a certificate
-abbrev Row : ℕ → ℕ → List ℕ → ℕ → ℕ → Type 0
-Row n m ws = Wrong (λ k. k ≡ n) (λ k. k ≡ m) (WholeCertificate n m) ws Sheet.certificate
+-- ---- the certificate as a reader of its own: its kind, then a witness's clauses or a proof's lines
 
--- ---- a reader after the first word, and no word after it; `mk` makes the certificate of what was read
+kindOf : Certificate → ℕ
+kindOf (witness W) = 1
+kindOf (proof ls) = 2
 
-module _ (n m : ℕ) {A : Type 0} {r : List ℕ → ℕ → Out A} {code : A → List ℕ} {Form : A → Type 0} (R : Reads r code Form)
-    (mk : A → Certificate) (lead : List ℕ) (coded : (x : A) → lead ++ code x ≡ codeCertificate (mk x)) (formed : (x : A) → Form x ↔ PartsForm n m (mk x)) where
-  ok-from : (ws : List ℕ) {p : ℕ} → Spans ws 0 lead p → OK (λ C q. (ws ≡ codeCertificate C) × PartsForm n m C) (then (r ws p) (λ x q. ended ws (mk x) q))
-  unfolding ended
-  ok-from ws {p} s =
-      ok-then _ (R .sound ws p) (λ x q t.
-      ok-need (leb (length ws) q) _ _ (λ b.
-      let e : drop q ws ≡ [] = drop-of-length-le ws (leb-true _ _ b) in
-      let w = spans-join s (t .0) .words in
-      fine (w ∙ ap (λ l. lead ++ code x ++ l) e ∙ append-nil (lead ++ code x) ∙ coded x, formed x .0 (t .1))))
+clausesOf : Certificate → Policy
+clausesOf (witness W) = W
+clausesOf (proof ls) = []
 
-  exact-from : (x : A) → PartsForm n m (mk x) → then (r (codeCertificate (mk x)) (length lead)) (λ y q. ended (codeCertificate (mk x)) (mk y) q) ≡ got (mk x) (length (codeCertificate (mk x)))
-  unfolding ended
-  exact-from x f =
-      let ws = codeCertificate (mk x) in
-      let w : drop (length lead) ws ≡ code x ++ [] = ap (drop (length lead)) (sym (coded x)) ∙ drop-append-seam lead (code x) ∙ sym (append-nil (code x)) in
-      let z : length lead + length (code x) ≡ length ws = omega (arith, ap length (coded x), length-append lead (code x)) in
-      let i : length ws ≤ length lead + length (code x) = omega arith in
-      simp (R .exact ws (length lead) x [] w (formed x .1 f), le-leb _ _ i) (ap (got (mk x)) z)
+linesOf : Certificate → List Line
+linesOf (witness W) = []
+linesOf (proof ls) = ls
 
-  told-from : (ws : List ℕ) {p : ℕ} → Spans ws 0 lead p → Told (Row n m ws) (length ws) (r ws p) → Told (Row n m ws) (length ws) (then (r ws p) (λ x q. ended ws (mk x) q))
-  told-from ws {p} s t =
-      told-then-ok (Row n m ws) _ (R .sound ws p) t (λ x q u i.
-      told-ended (Row n m ws) ws (mk x) q (Wrong.leftOver (mk x, formed x .0 (u .1), spans-whole (lead ++ code x) (spans-join s (u .0)) ∙ coded x)) i)
+afterKind : Certificate → List ℕ
+afterKind (witness W) = codeMany codeClause W
+afterKind (proof ls) = codeMany codeLine ls
 
--- ---- witness and proof
+-- what is due after the kind
+data FromKind (n m : ℕ) : ℕ → List ℕ → What → Type 0 where
+  clauses : {us : List ℕ} {what : What} → InSection 0 128 codeClause (ClauseForm n) (InClause n) us what → FromKind n m 1 us what
+  lines : {us : List ℕ} {what : What} → InSection 1 1024 codeLine (LineForm n m) (InLine n m) us what → FromKind n m 2 us what
 
 module _ (n m : ℕ) where
-  witness-formed : (W : Policy) → ((0 ≤ length W) × (length W < 129) × ((c : Clause) → c ∈ W → ClauseForm n c)) ↔ PartsForm n m (witness W)
-  unfolding PartsForm
-  witness-formed W = (λ f. (omega (arith, f .1), f .2), λ f. (omega arith, omega (arith, f .0), f .1))
+  byKind : ℕ → List ℕ → ℕ → Out Certificate
+  byKind x ws p = choose (x is 1) (made witness (after (section 0 129 (clause n)) ws p)) (made proof (after (section 1 1025 (line n m)) ws p))
 
-  proof-formed : (ls : List Line) → ((1 ≤ length ls) × (length ls < 1025) × ((l : Line) → l ∈ ls → LineForm n m l)) ↔ PartsForm n m (proof ls)
-  unfolding PartsForm
-  proof-formed ls = (λ f. (f .0, omega (arith, f .1), f .2), λ f. (f .0, omega (arith, f .1), f .2))
+  parts : List ℕ → ℕ → Out Certificate
+  parts ws at = then (ranged 1 3 11 ws at) (λ x p. byKind x ws p)
+
+  proposal-parts : (ws : List ℕ) → proposal n m ws ≡ then (parts ws 0) (λ C p. ended ws C p)
+  unfolding proposal witnessFrom proofFrom parts byKind choose
+  proposal-parts ws = go (ranged 1 3 11 ws 0)
+    where
+      inner : {A : Type 0} (mk : A → Certificate) (o : Out A) → then o (λ x q. ended ws (mk x) q) ≡ then (made mk o) (λ C p. ended ws C p)
+      inner mk (got x q) = refl
+      inner mk (bad e q w) = refl
+
+      chosen : (b : Bool) (p : ℕ) → choose b (witnessFrom n ws p) (proofFrom n m ws p) ≡ then (choose b (made witness (after (section 0 129 (clause n)) ws p)) (made proof (after (section 1 1025 (line n m)) ws p))) (λ C p. ended ws C p)
+      chosen true p = inner witness (after (section 0 129 (clause n)) ws p)
+      chosen false p = inner proof (after (section 1 1025 (line n m)) ws p)
+
+      go : (o : Out ℕ) → then o (λ x p. choose (x is 1) (witnessFrom n ws p) (proofFrom n m ws p)) ≡ then (then o (λ x p. byKind x ws p)) (λ C p. ended ws C p)
+      go (got x p) = chosen (x is 1) p
+      go (bad e p w) = refl
+
+  -- ---- what it accepts
+
+  abbrev OfKind : ℕ → Certificate → Type 0
+  OfKind x C = ((kindOf C ≡ x) × Unit {0}) × PartsForm n m C
+
+  reads-witness : Reads (λ ws p. made witness (after (section 0 129 (clause n)) ws p)) afterKind (OfKind 1)
+  unfolding kindOf clausesOf afterKind PartsForm
+  reads-witness = reads-as (reads-made (reads-part 0 128 (reads-clause n)) witness clausesOf (λ C. kindOf C ≡ 1) (λ W f. refl) (λ W f. refl) back) same formed
+    where
+      other : {A : Type 0} → _≡_ {A = ℕ} 2 1 → A
+      other z = absurd (omega (arith, z))
+
+      back : (C : Certificate) → kindOf C ≡ 1 → witness (clausesOf C) ≡ C
+      back (witness W) z = refl
+      back (proof ls) z = other z
+
+      same : (C : Certificate) → ((kindOf C ≡ 1) × SectionForm 0 128 (ClauseForm n) (clausesOf C)) → codeMany codeClause (clausesOf C) ≡ afterKind C
+      same (witness W) f = refl
+      same (proof ls) f = other (f .0)
+
+      formed : (C : Certificate) → ((kindOf C ≡ 1) × SectionForm 0 128 (ClauseForm n) (clausesOf C)) ↔ OfKind 1 C
+      formed (witness W) = (λ f. ((f .0, tt), (f .1 .most, f .1 .each)), λ f. (f .0 .0, record { least = omega arith; most = f .1 .0; each = f .1 .1 }))
+      formed (proof ls) = (λ f. other (f .0), λ f. other (f .0 .0))
+
+  reads-proof : Reads (λ ws p. made proof (after (section 1 1025 (line n m)) ws p)) afterKind (OfKind 2)
+  unfolding kindOf linesOf afterKind PartsForm
+  reads-proof = reads-as (reads-made (reads-part 1 1024 (reads-line n m)) proof linesOf (λ C. kindOf C ≡ 2) (λ ls f. refl) (λ ls f. refl) back) same formed
+    where
+      other : {A : Type 0} → _≡_ {A = ℕ} 1 2 → A
+      other z = absurd (omega (arith, z))
+
+      back : (C : Certificate) → kindOf C ≡ 2 → proof (linesOf C) ≡ C
+      back (witness W) z = other z
+      back (proof ls) z = refl
+
+      same : (C : Certificate) → ((kindOf C ≡ 2) × SectionForm 1 1024 (LineForm n m) (linesOf C)) → codeMany codeLine (linesOf C) ≡ afterKind C
+      same (witness W) f = other (f .0)
+      same (proof ls) f = refl
+
+      formed : (C : Certificate) → ((kindOf C ≡ 2) × SectionForm 1 1024 (LineForm n m) (linesOf C)) ↔ OfKind 2 C
+      formed (witness W) = (λ f. other (f .0), λ f. other (f .0 .0))
+      formed (proof ls) = (λ f. ((f .0, tt), (f .1 .least, f .1 .most, f .1 .each)), λ f. (f .0 .0, record { least = f .1 .0; most = f .1 .1; each = f .1 .2 }))
+
+  reads-kind : (x : ℕ) → (1 ≤ x) × (x < 3) → Reads (byKind x) afterKind (OfKind x)
+  unfolding byKind choose _is_
+  reads-kind zero f = absurd (omega (arith, f .0))
+  reads-kind (suc zero) f = reads-witness
+  reads-kind (suc (suc zero)) f = reads-proof
+  reads-kind (suc (suc (suc x))) f = absurd (omega (arith, f .1))
+
+  reads-parts : Reads parts codeCertificate (PartsForm n m)
+  unfolding parts kindOf afterKind codeCertificate
+  reads-parts = reads-as (reads-bind (reads-ranged 1 3 11) {codeC = λ x C. afterKind C} {Keep = λ C. Unit {0}} {FormC = λ x C. PartsForm n m C} kindOf reads-kind) (λ C f. same C) (λ C. (λ f. f .1 .1, λ f. (tt, (known C, f))))
+    where
+      same : (C : Certificate) → kindOf C ∷ afterKind C ≡ codeCertificate C
+      same (witness W) = refl
+      same (proof ls) = refl
+
+      known : (C : Certificate) → (1 ≤ kindOf C) × (kindOf C < 3)
+      known (witness W) = (omega arith, omega arith)
+      known (proof ls) = (omega arith, omega arith)
+
+  -- ---- when it refuses
+
+  refuses-kind : Refuses (ranged 1 3 11) (Only (one kind))
+  refuses-kind = refuses-ranged (record { row = λ x f. Wrong.noKind (λ z. f (omega (arith, z)) (omega (arith, z))) (λ z. f (omega (arith, z)) (omega (arith, z))); only = only' })
+    where
+      only' : (x k : ℕ) → Wrong kind x k → (k ≡ 11) × (1 ≤ x → x < 3 → ⊥)
+      only' x k (Wrong.noKind f g) = (refl, λ a b. omega (arith, f, g))
+
+  refuses-rest : (x : ℕ) → (1 ≤ x) × (x < 3) → Refuses (byKind x) (FromKind n m x)
+  unfolding byKind choose _is_
+  refuses-rest zero f = absurd (omega (arith, f .0))
+  refuses-rest (suc zero) f = refuses-as (refuses-made (refuses-part 0 128 (reads-clause n) (refuses-clause n)) (λ ws at. witness)) (λ us what d. clauses d) from
+    where
+      from : (us : List ℕ) (what : What) → FromKind n m 1 us what → InSection 0 128 codeClause (ClauseForm n) (InClause n) us what
+      from us what (clauses d) = d
+  refuses-rest (suc (suc zero)) f = refuses-as (refuses-made (refuses-part 1 1024 (reads-line n m) (refuses-line n m)) (λ ws at. proof)) (λ us what d. lines d) from
+    where
+      from : (us : List ℕ) (what : What) → FromKind n m 2 us what → InSection 1 1024 codeLine (LineForm n m) (InLine n m) us what
+      from us what (lines d) = d
+  refuses-rest (suc (suc (suc x))) f = absurd (omega (arith, f .1))
+
+  refuses-parts : Refuses parts (InCertificate n m)
+  unfolding parts
+  refuses-parts = refuses-as (refuses-then {f = λ x q ws p. _} (reads-ranged 1 3 11) refuses-kind (λ x q f. refuses-rest x f)) to from
+    where
+      to : (us : List ℕ) (what : What) → Seq (Only (one kind)) (λ x. x ∷ []) (λ x. (1 ≤ x) × (x < 3)) (FromKind n m) us what → InCertificate n m us what
+      to us what (first only) = InCertificate.kind
+      to us what (second x f (clauses d)) = InCertificate.witness d
+      to us what (second x f (lines d)) = InCertificate.proof d
+
+      from : (us : List ℕ) (what : What) → InCertificate n m us what → Seq (Only (one kind)) (λ x. x ∷ []) (λ x. (1 ≤ x) × (x < 3)) (FromKind n m) us what
+      from us what InCertificate.kind = first only
+      from us what (InCertificate.witness d) = second 1 (omega arith, omega arith) (clauses d)
+      from us what (InCertificate.proof d) = second 2 (omega arith, omega arith) (lines d)
+
+  -- ---- at most 24,000 words
 
   ok-proposal : (ws : List ℕ) → OK (λ C q. (ws ≡ codeCertificate C) × PartsForm n m C) (proposal n m ws)
-  unfolding proposal witnessFrom proofFrom choose _is_ codeCertificate
-  ok-proposal ws = ok-then _ (reads-ranged 1 3 11 .sound ws 0) (λ x p s. go x p (s .0) (s .1 .0) (s .1 .1) (eqb x 1) refl)
-    where
-      go : (x p : ℕ) → Spans ws 0 (x ∷ []) p → 1 ≤ x → x < 3 → (b : Bool) → eqb x 1 ≡ b → OK (λ C q. (ws ≡ codeCertificate C) × PartsForm n m C) (choose b (witnessFrom n ws p) (proofFrom n m ws p))
-      go x p s lo hi true e = ok-from n m (reads-after (reads-section (reads-clause n) 0 129)) witness (1 ∷ []) (λ x. refl) witness-formed ws (rw (eqb-true x 1 e) at s)
-      go x p s lo hi false e =
-          let d : x ≡ 1 → ⊥ = eqb-false x 1 e in
-          let z : x ≡ 2 = omega arith in
-          ok-from n m (reads-after (reads-section (reads-line n m) 1 1025)) proof (2 ∷ []) (λ x. refl) proof-formed ws (rw z at s)
+  ok-proposal ws = rw (proposal-parts ws) (ok-whole reads-parts ws)
 
   ok-certificate : (ws : List ℕ) → OK (λ C q. (ws ≡ codeCertificate C) × CertificateForm n m C) (certificate n m ws)
   unfolding certificate choose
@@ -91,21 +186,12 @@ module _ (n m : ℕ) where
       go true e = ok-more (ok-proposal ws) (λ C q s. (s .0, record { parts = s .1; short = rw (← s .0) (leb-true _ _ e) }))
       go false e = none
 
-  accepted : (C : Certificate) → PartsForm n m C → proposal n m (codeCertificate C) ≡ got C (length (codeCertificate C))
-  unfolding proposal witnessFrom proofFrom choose _is_ codeCertificate
-  accepted (witness W) f =
-      simp (reads-ranged 1 3 11 .exact (codeCertificate (witness W)) 0 1 _ refl (omega arith, omega arith))
-      (exact-from n m (reads-after (reads-section (reads-clause n) 0 129)) witness (1 ∷ []) (λ x. refl) witness-formed W f)
-  accepted (proof ls) f =
-      simp (reads-ranged 1 3 11 .exact (codeCertificate (proof ls)) 0 2 _ refl (omega arith, omega arith))
-      (exact-from n m (reads-after (reads-section (reads-line n m) 1 1025)) proof (2 ∷ []) (λ x. refl) proof-formed ls f)
-
 pub certificateSound : CertificateSound
 certificateSound n m ws C p e = ok-got (ok-certificate n m ws) e
 
 pub certificateAccepted : CertificateAccepted
 unfolding certificate choose
-certificateAccepted n m C f = simp (le-leb _ _ (f .short)) (accepted n m C (f .parts))
+certificateAccepted n m C f = simp (le-leb _ _ (f .short)) (proposal-parts n m (codeCertificate C) ∙ exact-whole (reads-parts n m) C (f .parts))
 
 pub certificateOnce : CertificateOnce
 certificateOnce n m C E f g e =
@@ -138,37 +224,21 @@ certificateMore = (
   λ n m k W f. record { parts = f .parts; short = f .short },
 )
 
--- ---- refusals
-
-module _ (n m : ℕ) (ws : List ℕ) where
-  told-proposal : Told (Row n m ws) (length ws) (proposal n m ws)
-  unfolding proposal witnessFrom proofFrom choose _is_ codeCertificate
-  told-proposal =
-      told-then-ok (Row n m ws) _ (reads-ranged 1 3 11 .sound ws 0) (told-ranged (Row n m ws) ws 1 3 0 (λ o. Wrong.kind (λ e. o (omega (arith, e)) (omega (arith, e))) (λ e. o (omega (arith, e)) (omega (arith, e))))) (λ x p s i.
-      go x p (s .0) (s .1 .0) (s .1 .1) i (eqb x 1) refl)
-    where
-      go : (x p : ℕ) → Spans ws 0 (x ∷ []) p → 1 ≤ x → x < 3 → p ≤ length ws → (b : Bool) → eqb x 1 ≡ b → Told (Row n m ws) (length ws) (choose b (witnessFrom n ws p) (proofFrom n m ws p))
-      go x p s lo hi i true e =
-          told-from n m (reads-after (reads-section (reads-clause n) 0 129)) witness (1 ∷ []) (λ x. refl) (witness-formed n m) ws (rw (eqb-true x 1 e) at s)
-          (told-after (section 0 129 (clause n)) ws p i (wrong-moved _ _ _ ws p Sheet.certificate) (told-section _ (drop p ws) (clause n) (told-clause (λ k. k ≡ n) (λ k. k ≡ m) None Sheet.certificate n refl (drop p ws)) 0 129 0 (wrong-limit table.clauses)))
-      go x p s lo hi i false e =
-          let d : x ≡ 1 → ⊥ = eqb-false x 1 e in
-          let z : x ≡ 2 = omega arith in
-          told-from n m (reads-after (reads-section (reads-line n m) 1 1025)) proof (2 ∷ []) (λ x. refl) (proof-formed n m) ws (rw z at s)
-          (told-after (section 1 1025 (line n m)) ws p i (wrong-moved _ _ _ ws p Sheet.certificate) (told-section _ (drop p ws) (line n m) (told-line n m (drop p ws)) 1 1025 0 (wrong-limit table.lines)))
+-- ---- the rows
 
 pub certificateShows : CertificateShows
 unfolding certificate choose
 certificateShows n m ws e p w = go (leb (length ws) 24000) refl
   where
-    shows : ((e ≡ 1) × (p ≡ length ws) × (w ≡ 0)) ⊎ (Row n m ws e p × (p < length ws) × (w ≡ 1)) → (us : List ℕ) × CertificateRow n m ws e p w us
-    shows (inl (a, b, c)) = ([], rw (a, b, c) FormRow.ended)
-    shows (inr (a, b, c)) = (getD ws p 0 ∷ [], rw c (FormRow.shown a b))
-
-    go : (b : Bool) → leb (length ws) 24000 ≡ b → choose b (proposal n m ws) (bad 10 0 0) ≡ bad e p w → (us : List ℕ) × CertificateRow n m ws e p w us
+    go : (b : Bool) → leb (length ws) 24000 ≡ b → choose b (proposal n m ws) (bad 10 0 0) ≡ bad e p w → (us : List ℕ) × CertificateRow n m ws e p us × (w ≡ length us)
     go false l q =
-        let a : e ≡ 10 = cc in
-        let b : p ≡ 0 = cc in
-        let d : w ≡ 0 = cc in
-        ([], rw (a, b, d) (FormRow.long (leb-false _ _ l)))
-    go true l q = shows (told-bad (Row n m ws) (told-proposal n m ws) q)
+        let a : 10 ≡ e = cc in
+        let b : 0 ≡ p = cc in
+        let c : w ≡ 0 = cc in
+        ([], subst₂ (λ (i j : ℕ). CertificateRow n m ws i j []) a b (long (leb-false _ _ l)), c)
+    go true l q = let (us, r, c) = refused-row (reads-parts n m) (refuses-parts n m) ws (sym (proposal-parts n m ws) ∙ q) in (us, form (leb-true _ _ l) r, c)
+
+pub certificateRows : CertificateRows
+unfolding certificate choose
+certificateRows n m ws e p us (long h) = simp (lt-leb _ _ h)
+certificateRows n m ws e p us (form h r) = simp (le-leb _ _ h) (proposal-parts n m ws ∙ row-refused (reads-parts n m) (refuses-parts n m) ws r)

@@ -29,6 +29,9 @@ CertificateMore =
     ((n m k : ℕ) (C : Certificate) → m ≤ k → CertificateForm n m C → CertificateForm n k C)
     × ((n m k : ℕ) (W : Policy) → CertificateForm n m (witness W) → CertificateForm n k (witness W))
 
--- A refusal is a row of the table: what is wrong, and the words that are shown.
+-- A refusal is that of a row of the table, and every row refuses.
 abbrev pub CertificateShows : Type 0
-CertificateShows = (n m : ℕ) (ws : List ℕ) (e p w : ℕ) → certificate n m ws ≡ bad e p w → (us : List ℕ) × CertificateRow n m ws e p w us
+CertificateShows = (n m : ℕ) (ws : List ℕ) (e p w : ℕ) → certificate n m ws ≡ bad e p w → (us : List ℕ) × CertificateRow n m ws e p us × (w ≡ length us)
+
+abbrev pub CertificateRows : Type 0
+CertificateRows = (n m : ℕ) (ws : List ℕ) (e p : ℕ) (us : List ℕ) → CertificateRow n m ws e p us → certificate n m ws ≡ bad e p (length us)

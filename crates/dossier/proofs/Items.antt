@@ -1,25 +1,38 @@
 -- What the readers of clauses, formulas and entries promise: they accept the codes of well-formed ones, and nothing else.
 use Prim.Native.Nat.{ℕ, zero, suc, _+_, _<_, _≤_}
-use mathlib.Core.Path.{_≡_, refl, sym, ap, subst}
+use mathlib.Core.Path.{_≡_, refl, ap}
 use mathlib.Core.Bool.{Bool, true, false}
-use mathlib.Core.List.{List, [], _∷_, _++_}
+use mathlib.Core.List.{List, _++_}
+use mathlib.Core.Logic.{_↔_}
 use native.Mathlib.Omega.{arith}
-use lib.Dec.{ltb, leb, eqb}
-use lib.ListN.{length, getD, drop, length-append, length-drop}
-use borrow.Author.Tests.{ltb-true, leb-true, ltb-false, eqb-true, eqb-false, le-leb, eq-eqb}
+use lib.Dec.{leb, eqb}
+use lib.ListN.{length, drop, length-append, length-drop}
+use borrow.Author.Tests.{leb-true, eqb-true, le-leb, eq-eqb}
 use Rattle.words.specs.Out.{Out, got, present}
-use Rattle.words.specs.Code.{codeList}
+use Rattle.words.specs.Code.{codeList, RisingFrom}
+use Rattle.words.specs.Read.{listed}
 use Rattle.words.specs.declared.Range.the-variants.{Below}
-use Rattle.words.proofs.Promise.{OK, fine, none, ok-then, ok-made, ok-need, In, in-then, in-made, Spans, spans-word, spans-join, lies, Reads, reads-as, reads-then, reads-ranged, reads-listed}
-use Rattle.words.proofs.Shown.{told-inside}
-use Rattle.meaning.specs.Tests.{_is_, choose}
+use Rattle.words.proofs.Promise.{OK, fine, none, ok-then, ok-need, In, inGot, inBad, in-then, in-then-ok, in-made, in-need, Spans, spans-join, lies, Reads, reads-as, reads-then, reads-ranged, reads-listed}
+use Rattle.meaning.specs.Tests.{_∈_, _is_}
 use Rattle.meaning.specs.Formula.{Formula, always, atom, neg, conj, disj}
 use Rattle.promise.specs.Code.{bit, codeClause, codeMarked, codeFormula, codeEntry}
-use Rattle.promise.specs.Form.{ClauseForm, FormulaForm, EntryForm}
+use Rattle.promise.specs.Form.{ListForm, ClauseForm, FormulaForm, EntryForm}
 use Rattle.promise.proofs.Seen.{is-bit}
-use Rattle.dossier.specs.Read.{clause, marked, byKind, operand, formula, entry}
-use Rattle.dossier.proofs.Coded.{both, exact-operand}
-use Rattle.dossier.proofs.Refusals.{told-formula}
+use Rattle.dossier.specs.Read.{clause, marked, formula, entry}
+use Rattle.dossier.proofs.Coded.{exact-operand}
+use Rattle.dossier.proofs.Formula.{Comes, amiss, strange, misfit, operand-comes}
+
+-- ---- lists of atoms and of credential numbers
+
+-- a list as a reader tests it, and as the form says it
+list-form : {most hi : ℕ} (l : List ℕ) → ((0 ≤ length l) × (length l < suc most) × RisingFrom 0 l × ((x : ℕ) → x ∈ l → x < hi)) ↔ ListForm most hi l
+list-form l = (λ f. record { few = omega (arith, f .1); rising = f .2; below = f .3 }, λ f. (omega arith, omega (arith, f .few), f .rising, f .below))
+
+pub reads-atoms : (n : ℕ) → Reads (listed 0 9 (Below n 3)) codeList (ListForm 8 n)
+reads-atoms n = reads-as (reads-listed 0 9 (Below n 3)) (λ l f. refl) list-form
+
+pub reads-creds : (m : ℕ) → Reads (listed 0 33 (Below m 6)) codeList (ListForm 32 m)
+reads-creds m = reads-as (reads-listed 0 33 (Below m 6)) (λ l f. refl) list-form
 
 -- ---- clauses
 
@@ -27,11 +40,11 @@ pub reads-clause : (n : ℕ) → Reads (clause n) codeClause (ClauseForm n)
 unfolding clause
 reads-clause n =
     reads-as
-    (reads-then (reads-ranged 0 n 3) (λ h b. record { head = h; body = b }) (λ c. c .head) (λ c. c .body) (λ x y f. refl) (λ x y. refl) (λ c. refl) (λ h f. reads-listed 0 9 (Below n 3)))
+    (reads-then (reads-ranged 0 n 3) (λ h b. record { head = h; body = b }) (λ c. c .head) (λ c. c .body) (λ x y f. refl) (λ x y. refl) (λ c. refl) (λ h f. reads-atoms n))
     (λ c f. refl)
     (λ c. (
-      λ f. record { head = f .0 .1; body = record { few = omega (arith, f .1 .1); rising = f .1 .2; below = f .1 .3 } },
-      λ f. ((omega arith, f .head), (omega arith, omega (arith, f .body .few), f .body .rising, f .body .below)),
+      λ f. record { head = f .0 .1; body = f .1 },
+      λ f. ((omega arith, f .head), f .body),
     ))
 
 -- a mark or a sign is a bit
@@ -53,51 +66,6 @@ reads-marked n =
     (λ m f. refl)
     (λ m. (λ f. f .1, λ f. ((omega arith, bit-below (m .visible)), f)))
 
--- ---- formulas: what is accepted
-
-ok-choose : {A : Type 0} {P : A → ℕ → Type 0} (b : Bool) {o₁ o₂ : Out A} → (b ≡ true → OK P o₁) → (b ≡ false → OK P o₂) → OK P (choose b o₁ o₂)
-unfolding choose
-ok-choose true f g = f refl
-ok-choose false f g = g refl
-
-ok-present : {A : Type 0} {P : A → ℕ → Type 0} (b : Bool) (ws : List ℕ) {o : Out A} → (b ≡ true → OK P o) → OK P (present b ws o)
-ok-present true ws f = f refl
-ok-present false ws f = none
-
-module _ (x : ℕ) (f g : Formula) (low : 256 ≤ x) (h₁ : x ≡ 256 → ⊥) (h₂ : x ≡ 257 → ⊥) (h₃ : x ≤ 259) where
-  code-both : codeFormula (both x f g) ≡ x ∷ (codeFormula f ++ codeFormula g)
-  unfolding choose _is_ codeFormula
-  code-both = go (eqb x 258) refl
-    where
-      go : (b : Bool) → eqb x 258 ≡ b → codeFormula (choose b (conj f g) (disj f g)) ≡ x ∷ (codeFormula f ++ codeFormula g)
-      go true e = ap (λ (y : ℕ). y ∷ (codeFormula f ++ codeFormula g)) (sym (eqb-true _ _ e))
-      go false e = let n : x ≡ 258 → ⊥ = eqb-false _ _ e in let z : 259 ≡ x = omega arith in ap (λ (y : ℕ). y ∷ (codeFormula f ++ codeFormula g)) z
-
-form-both : (n d x : ℕ) (f g : Formula) → FormulaForm n d f → FormulaForm n d g → FormulaForm n (suc d) (both x f g)
-unfolding choose FormulaForm
-form-both n d x f g s t = go (x is 258)
-  where
-    go : (b : Bool) → FormulaForm n (suc d) (choose b (conj f g) (disj f g))
-    go true = (s, t)
-    go false = (s, t)
-
-ok-operand : (n lp end d : ℕ) (ws : List ℕ) → end ≤ length ws → (at : ℕ) → OK (λ f p. Spans ws at (codeFormula f) p × FormulaForm n d f) (operand n lp end d ws at)
-unfolding operand byKind FormulaForm codeFormula _is_
-ok-operand n lp end zero ws fits at = none
-ok-operand n lp end (suc d) ws fits at =
-    ok-need (ltb at end) _ _ (λ i.
-    let x = getD ws at 0 in
-    let w : at < end = ltb-true _ _ i in
-    let s : Spans ws at (getD ws at 0 ∷ []) (at + 1) = spans-word ws at (omega arith) in
-    ok-choose (ltb x n) (λ a. fine (s, ltb-true _ _ a)) (λ a.
-    ok-choose (ltb x 256) (λ b. none) (λ b.
-    ok-choose (eqb x 256) (λ e. fine (rw (eqb-true x 256 e) at s, tt)) (λ e.
-    ok-choose (eqb x 257) (λ k. ok-made neg (ok-operand n lp end d ws fits (at + 1)) (λ f p t. (spans-join (rw (eqb-true x 257 k) at s) (t .0), t .1))) (λ k.
-    ok-choose (ltb 259 x) (λ z. none) (λ z.
-    ok-then _ (ok-operand n lp end d ws fits (at + 1)) (λ f p t.
-    ok-made (both x f) (ok-operand n lp end d ws fits p) (λ g q u.
-    (subst (λ (l : List ℕ). Spans ws at l q) (sym (code-both x f g (ltb-false _ _ b) (eqb-false _ _ e) (eqb-false _ _ k) (ltb-false _ _ z))) (spans-join s (spans-join (t .0) (u .0))), form-both n d x f g (t .1) (u .1))))))))))
-
 -- ---- a formula after its length
 
 code-some : (g : Formula) → 1 ≤ length (codeFormula g)
@@ -108,23 +76,47 @@ code-some (neg g) = omega arith
 code-some (conj g h) = omega arith
 code-some (disj g h) = omega arith
 
+ok-present : {A : Type 0} {P : A → ℕ → Type 0} (b : Bool) (ws : List ℕ) {o : Out A} → (b ≡ true → OK P o) → OK P (present b ws o)
+ok-present true ws f = f refl
+ok-present false ws f = none
+
+in-present : {A : Type 0} (b : Bool) (ws : List ℕ) {o : Out A} → (b ≡ true → In (length ws) o) → In (length ws) (present b ws o)
+in-present true ws f = f refl
+in-present false ws f = let i : length ws + 0 ≤ length ws = omega arith in inBad i
+
+module _ (n lp end d at : ℕ) (ws : List ℕ) where
+  ok-comes : {o : Out Formula} → Comes n lp end ws d at o → OK (λ f p. Spans ws at (codeFormula f) p × FormulaForm n d f) o
+  ok-comes (Comes.formula s g h) = fine (s, g)
+  ok-comes (amiss y) = none
+
+  in-comes : {o : Out Formula} → lp < length ws → end ≤ length ws → Comes n lp end ws d at o → In (length ws) o
+  in-comes l fits (Comes.formula {p = p} s g h) = let i : p ≤ length ws = omega arith in inGot i
+  in-comes l fits (amiss (strange us rest {p = p} v z h o y)) = let i : p + 1 ≤ length ws = omega arith in inBad i
+  in-comes l fits (amiss (misfit us rest v h o y)) = let i : lp + 1 ≤ length ws = omega arith in inBad i
+
 -- for every number of atoms, every place lies in the paper
-in-formula : (n : ℕ) (ws : List ℕ) (at : ℕ) → In (length ws) (formula n ws at)
-in-formula n ws at = told-inside _ (told-formula (λ e p. Unit {0}) n ws (λ p h g. tt) (λ p h. tt) (λ p h. tt) (λ p h. tt) at)
+in-formula : (n : ℕ) (ws : List ℕ) (at : ℕ) → at ≤ length ws → In (length ws) (formula n ws at)
+unfolding formula
+in-formula n ws at h =
+    in-then-ok _ (reads-ranged 1 65 2 .sound ws at) (reads-ranged 1 65 2 .inside ws at h) (λ len p s i.
+    let l : at < length ws = omega (arith, s .0 .next) in
+    in-present (leb (p + len) (length ws)) ws (λ b.
+    in-then _ (in-comes n at (p + len) 16 p ws l (leb-true _ _ b) (operand-comes n at (p + len) ws 16 p (leb-true _ _ b) (omega arith))) (λ f q j.
+    in-need (eqb q (p + len)) 8 at l (inGot j))))
 
 pub in-entry : (n m : ℕ) (ws : List ℕ) (at : ℕ) → at ≤ length ws → In (length ws) (entry n m ws at)
 unfolding entry
-in-entry n m ws at h = in-then _ (reads-listed 0 33 (Below m 6) .inside ws at h) (λ S p i. in-made _ (in-formula n ws p))
+in-entry n m ws at h = in-then _ (reads-listed 0 33 (Below m 6) .inside ws at h) (λ S p i. in-made _ (in-formula n ws p i))
 
 pub reads-formula : (n : ℕ) → n ≤ 256 → Reads (formula n) (λ f. codeList (codeFormula f)) (λ f. FormulaForm n 16 f × (length (codeFormula f) ≤ 64))
 unfolding formula
-reads-formula n small = record { sound = sound; exact = exact; inside = λ ws at h. in-formula n ws at }
+reads-formula n small = record { sound = sound; exact = exact; inside = in-formula n }
   where
     sound : (ws : List ℕ) (at : ℕ) → OK (λ f p. Spans ws at (codeList (codeFormula f)) p × (FormulaForm n 16 f × (length (codeFormula f) ≤ 64))) (formula n ws at)
     sound ws at =
         ok-then _ (reads-ranged 1 65 2 .sound ws at) (λ len p s.
         ok-present (leb (p + len) (length ws)) ws (λ b.
-        ok-then _ (ok-operand n at (p + len) 16 ws (leb-true _ _ b) p) (λ f q t.
+        ok-then _ (ok-comes n at (p + len) 16 p ws (operand-comes n at (p + len) ws 16 p (leb-true _ _ b) (omega arith))) (λ f q t.
         ok-need (eqb q (p + len)) _ _ (λ e.
         let z : length (codeFormula f) ≡ len = omega (arith, eqb-true q (p + len) e, t .0 .next) in
         fine (spans-join (rw (← z) at (s .0)) (t .0), (t .1, omega (arith, s .1 .1)))))))
@@ -143,9 +135,9 @@ pub reads-entry : (n m : ℕ) → n ≤ 256 → Reads (entry n m) codeEntry (Ent
 unfolding entry
 reads-entry n m small =
     reads-as
-    (reads-then (reads-listed 0 33 (Below m 6)) (λ S f. record { creds = S; formula = f }) (λ e. e .creds) (λ e. e .formula) (λ x y f. refl) (λ x y. refl) (λ e. refl) (λ S f. reads-formula n small))
+    (reads-then (reads-creds m) (λ S f. record { creds = S; formula = f }) (λ e. e .creds) (λ e. e .formula) (λ x y f. refl) (λ x y. refl) (λ e. refl) (λ S f. reads-formula n small))
     (λ e f. refl)
     (λ e. (
-      λ f. record { creds = record { few = omega (arith, f .0 .1); rising = f .0 .2; below = f .0 .3 }; formula = f .1 .0; short = f .1 .1 },
-      λ f. ((omega arith, omega (arith, f .creds .few), f .creds .rising, f .creds .below), (f .formula, f .short)),
+      λ f. record { creds = f .0; formula = f .1 .0; short = f .1 .1 },
+      λ f. (f .creds, (f .formula, f .short)),
     ))

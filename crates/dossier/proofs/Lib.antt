@@ -1,9 +1,10 @@
 pub mod Operand
+pub mod Formula
 pub mod Sections
-pub mod Refusals
 pub mod Items
+pub mod Refusals
+pub mod Rows
 pub mod Chain
 pub mod Longest
 pub mod Promise
 pub mod Coded
-pub mod Rows

@@ -1,75 +1,154 @@
--- The sections of a dossier: what each refusal shows, and what is wrong there.
-use Prim.Native.Nat.{ℕ, _≤_}
-use mathlib.Core.Path.{_≡_, refl, sym, ap, _∙_}
-use mathlib.Core.List.{List, _++_}
+-- When the reader of a dossier's sections refuses: exactly where a row says so.
+use Prim.Native.Nat.{ℕ, suc, _+_, _<_, _≤_}
+use mathlib.Core.Path.{_≡_, refl, sym, ap, _∙_, subst, subst₂}
+use mathlib.Core.Bool.{Bool, true, false}
+use mathlib.Core.List.{List, [], _∷_, _++_, append-nil, List·Memᴰ·not-nil}
 use native.Mathlib.Omega.{arith}
-use lib.ListN.{length, getD, drop}
-use Rattle.words.specs.Code.{codeList, codeMany}
-use Rattle.words.specs.Read.{section}
+use lib.Dec.{leb}
+use lib.ListN.{length, getD, drop, length-append, drop-of-length-le}
+use borrow.Author.Tests.{leb-true, leb-false, le-leb, lt-leb}
+use Rattle.words.specs.Out.{Out, got, bad, then, need, after}
+use Rattle.words.specs.Code.{codeList, codeAll, codeMany}
+use Rattle.words.specs.Read.{listed, section}
 use Rattle.words.specs.declared.Range.the-variants.{Any}
-use Rattle.words.proofs.Promise.{Spans, lies, reads-listed, reads-section}
+use Rattle.words.proofs.Promise.{OK, fine, none, ok-then, ok-need, Spans, spans-word, Reads, reads-as, reads-ranged, reads-listed, reads-section}
 use Rattle.words.proofs.Parts.{reads-after}
-use Rattle.words.proofs.Shown.{Told, told-then, told-then-ok, told-made, told-ranged, told-listed, told-section, told-after}
-use Rattle.meaning.specs.Policy.{Clause}
-use Rattle.meaning.specs.Papers.{Marked}
-use Rattle.promise.specs.Code.{codeMarked, codeClause}
-use Rattle.promise.specs.Table as table
-use Rattle.promise.specs.Table.{Sheet, Wrong, Begins, FirstWord, WholeDossier}
-use Rattle.promise.proofs.Table.{None, wrong-moved, wrong-limit}
-use Rattle.dossier.specs.Read.{clause, marked, entry, secret, sections}
-use Rattle.dossier.proofs.Refusals.{told-clause, told-entry}
-use Rattle.dossier.proofs.Items.{reads-clause, reads-marked}
+use Rattle.promise.specs.Code.{codeMarked, codeClause, codeEntry}
+use Rattle.promise.specs.Due.{What, one, count, InSection, SectionForm, InEntry, InLabels, LabelsForm, InClauses, ClausesForm, InCreds, CredsForm, InProbes, ProbesForm, InSecret, InDossier}
+use Rattle.promise.specs.Table.{FormRow}
+use Rattle.promise.proofs.Refused.{Why, Stops, went, stops, Refuses, refuses-as, refuses-made, refuses-after, Seq, first, second, refuses-then, Only, only}
+use Rattle.promise.proofs.Due.{refuses-count, refuses-labels, refuses-section}
+use Rattle.dossier.specs.Read.{secret, ended, sections}
+use Rattle.dossier.proofs.Items.{reads-clause, reads-marked, reads-entry}
+use Rattle.dossier.proofs.Refusals.{refuses-clause, refuses-marked, refuses-entry}
 
--- ---- the items, in any words
+pub reads-labels : Reads (listed 1 65 Any) codeList LabelsForm
+reads-labels =
+    reads-as (reads-listed 1 65 Any) (λ l f. refl) (λ l. (λ f. record { some = f .0; few = omega (arith, f .1); rising = f .2 }, λ f. (f .some, omega (arith, f .few), f .rising, λ x m. tt)))
 
-module _ (N M : ℕ → Type 0) (n : ℕ) (has : N n) (ws : List ℕ) where
-  abbrev W : ℕ → ℕ → Type 0
-  W = Wrong N M None ws Sheet.dossier
+-- a section that is read as the part from its place on
+module _ {A : Type 0} {r : List ℕ → ℕ → Out A} {code : A → List ℕ} {Form : A → Type 0} (lo hi : ℕ) (R : Reads r code Form) where
+  pub reads-part : Reads (after (section lo (suc hi) r)) (codeMany code) (SectionForm lo hi Form)
+  reads-part = reads-as (reads-after (reads-section R lo (suc hi))) (λ xs f. refl) (λ xs. (λ f. record { least = f .0; most = omega (arith, f .1); each = f .2 }, λ f. (f .least, omega (arith, f .most), f .each)))
 
-  told-marked : (at : ℕ) → Told W (length ws) (marked n ws at)
-  unfolding marked
-  told-marked at = told-then W _ (told-ranged W ws 0 2 at (λ o. Wrong.mark (omega (arith, o (omega arith))))) (λ x p i. told-made W _ (told-clause N M None Sheet.dossier n has ws p))
+  pub refuses-part : {In : List ℕ → What → Type 0} → Refuses r In → Refuses (after (section lo (suc hi) r)) (InSection lo hi code Form In)
+  refuses-part S = refuses-after (refuses-section R S lo hi)
 
-  told-secret : (m : ℕ) → M m → n ≤ 256 → (at : ℕ) → Told W (length ws) (secret n m ws at)
-  unfolding secret
-  told-secret m creds small at = told-then W _ (told-ranged W ws 1 2 at (wrong-limit table.secret)) (λ k p i. told-entry N M None n m small has creds ws p)
+-- the secret: a section of one
+module _ (n m : ℕ) where
+  refuses-secret : n ≤ 256 → Refuses (secret n m) (InSecret n m)
+  unfolding secret codeAll
+  refuses-secret small = refuses-as (refuses-then {f = λ k q ws p. _} (reads-ranged 1 2 2) (refuses-count 1 1) (λ k q f. refuses-entry n m small)) to from
+    where
+      to : (us : List ℕ) (what : What) → Seq (Only (one (count 1 1))) (λ k. k ∷ []) (λ k. (1 ≤ k) × (k < 2)) (λ k. InEntry n m) us what → InSecret n m us what
+      to us what (first only) = InSection.size
+      to us what (second k f d) = InSection.more k [] (f .0) (omega (arith, f .1)) (omega (arith, f .0)) (λ x i. absurd (List·Memᴰ·not-nil i)) d
 
--- ---- the sections
+      from : (us : List ℕ) (what : What) → InSecret n m us what → Seq (Only (one (count 1 1))) (λ k. k ∷ []) (λ k. (1 ≤ k) × (k < 2)) (λ k. InEntry n m) us what
+      from us what InSection.size = first only
+      from us what (InSection.more k [] a b l g d) = second k (a, omega arith) d
+      from us what (InSection.more k (x ∷ xs) a b l g d) = absurd (omega arith)
 
-module _ (ws : List ℕ) where
-  abbrev N : ℕ → Type 0
-  N = FirstWord ws
+-- ---- the sections in turn
 
-  abbrev M : ℕ → Type 0
-  M = Begins ws
+module _ (n : ℕ) where
+  abbrev FromProbes : ℕ → List ℕ → What → Type 0
+  FromProbes m = Seq (InProbes n m) (codeMany codeEntry) (ProbesForm n m) (λ es. InSecret n m)
 
-  abbrev pub Row : ℕ → ℕ → Type 0
-  Row = Wrong N M WholeDossier ws Sheet.dossier
+  abbrev FromCreds : List ℕ → What → Type 0
+  FromCreds = Seq (InCreds n) (codeMany codeClause) (CredsForm n) (λ ks. FromProbes (length ks))
 
-  begins : (ls : List ℕ) (cs : List Marked) (ks : List Clause) {p q r : ℕ} → Spans ws 0 (codeList ls) p → Spans ws p (codeMany codeMarked cs) q → Spans ws q (codeMany codeClause ks) r → M (length ks)
-  begins ls cs ks {r = r} a b c =
-      record {
-        labels = ls;
-        clauses = cs;
-        creds = ks;
-        rest = drop r ws;
-        words = a .words ∙ ap (λ (l : List ℕ). codeList ls ++ l) (b .words ∙ ap (λ (l : List ℕ). codeMany codeMarked cs ++ l) (c .words));
-        count = refl;
-      }
+  abbrev FromClauses : List ℕ → What → Type 0
+  FromClauses = Seq (InClauses n) (codeMany codeMarked) (ClausesForm n) (λ cs. FromCreds)
 
-  pub told-sections : Told Row (length ws) (sections ws 0)
-  unfolding sections
-  told-sections =
-      told-then-ok Row _ (reads-listed 1 65 Any .sound ws 0) (told-listed Row ws (λ p q z h. Wrong.order q z h) Any tt 1 65 0 (wrong-limit table.atoms)) (λ ls p a i.
-      let n = length ls in
-      let has : n ≡ getD ws 0 0 = sym (lies ws 0 (a .0 .words) .this) in
-      let small : n ≤ 256 = omega (arith, a .1 .1) in
-      told-then-ok Row _ (reads-after (reads-section (reads-marked n) 0 129) .sound ws p)
-      (told-after (section 0 129 (marked n)) ws p i (wrong-moved N M WholeDossier ws p Sheet.dossier) (told-section _ (drop p ws) (marked n) (told-marked N M n has (drop p ws)) 0 129 0 (wrong-limit table.clauses))) (λ cs q b j.
-      told-then-ok Row _ (reads-after (reads-section (reads-clause n) 0 33) .sound ws q)
-      (told-after (section 0 33 (clause n)) ws q j (wrong-moved N M WholeDossier ws q Sheet.dossier) (told-section _ (drop q ws) (clause n) (told-clause N M None Sheet.dossier n has (drop q ws)) 0 33 0 (wrong-limit table.creds))) (λ ks r c k.
-      let m = length ks in
-      let creds : M m = begins ls cs ks (a .0) (b .0) (c .0) in
-      told-then Row _
-      (told-after (section 0 65 (entry n m)) ws r k (wrong-moved N M WholeDossier ws r Sheet.dossier) (told-section _ (drop r ws) (entry n m) (told-entry N M None n m small has creds (drop r ws)) 0 65 0 (wrong-limit table.probes))) (λ es t l.
-      told-made Row _ (told-after (secret n m) ws t l (wrong-moved N M WholeDossier ws t Sheet.dossier) (told-secret N M n has (drop t ws) m creds small 0))))))
+abbrev FromLabels : List ℕ → What → Type 0
+FromLabels = Seq InLabels codeList LabelsForm (λ ls. FromClauses (length ls))
+
+sections-to : (us : List ℕ) (what : What) → FromLabels us what → InDossier us what
+sections-to us what (first d) = InDossier.labels d
+sections-to us what (second ls f (first d)) = InDossier.clauses ls f d
+sections-to us what (second ls f (second cs g (first d))) = InDossier.creds ls cs f g d
+sections-to us what (second ls f (second cs g (second ks h (first d)))) = InDossier.probes ls cs ks f g h d
+sections-to us what (second ls f (second cs g (second ks h (second es i d)))) = InDossier.secret ls cs ks es f g h i d
+
+sections-from : (us : List ℕ) (what : What) → InDossier us what → FromLabels us what
+sections-from us what (InDossier.labels d) = first d
+sections-from us what (InDossier.clauses ls f d) = second ls f (first d)
+sections-from us what (InDossier.creds ls cs f g d) = second ls f (second cs g (first d))
+sections-from us what (InDossier.probes ls cs ks f g h d) = second ls f (second cs g (second ks h (first d)))
+sections-from us what (InDossier.secret ls cs ks es f g h i d) = second ls f (second cs g (second ks h (second es i d)))
+
+pub refuses-sections : Refuses sections InDossier
+unfolding sections
+refuses-sections =
+    refuses-as
+    (refuses-then {f = λ ls p ws q. _} reads-labels refuses-labels (λ ls p f.
+    let n = length ls in
+    let small : n ≤ 256 = omega (arith, f .few) in
+    refuses-then {f = λ cs p ws q. _} (reads-part 0 128 (reads-marked n)) (refuses-part 0 128 (reads-marked n) (refuses-marked n)) (λ cs p g.
+    refuses-then {f = λ ks p ws q. _} (reads-part 0 32 (reads-clause n)) (refuses-part 0 32 (reads-clause n) (refuses-clause n)) (λ ks p h.
+    let m = length ks in
+    refuses-then {f = λ es p ws q. _} (reads-part 0 64 (reads-entry n m small)) (refuses-part 0 64 (reads-entry n m small) (refuses-entry n m small)) (λ es p i.
+    refuses-made (refuses-after (refuses-secret n m small)) (λ ws at s. record { labels = ls; clauses = cs; creds = ks; probes = es; secret = s }))))))
+    sections-to sections-from
+
+-- ---- a whole paper, and no word after it
+
+module _ {A : Type 0} {r : List ℕ → ℕ → Out A} {code : A → List ℕ} {Form : A → Type 0} (R : Reads r code Form) where
+  -- what is accepted, to the last word
+  pub ok-whole : (ws : List ℕ) → OK (λ x p. (ws ≡ code x) × Form x) (then (r ws 0) (λ x p. ended ws x p))
+  unfolding ended
+  ok-whole ws =
+      ok-then _ (R .sound ws 0) (λ x p s.
+      ok-need (leb (length ws) p) _ _ (λ b.
+      fine (s .0 .words ∙ ap (λ (l : List ℕ). code x ++ l) (drop-of-length-le ws (leb-true _ _ b)) ∙ append-nil (code x), s .1)))
+
+  pub exact-whole : (x : A) → Form x → then (r (code x) 0) (λ y p. ended (code x) y p) ≡ got x (length (code x))
+  unfolding ended
+  exact-whole x f =
+      let w = code x in
+      let e : r w 0 ≡ got x (0 + length w) = R .exact w 0 x [] (sym (append-nil w)) f in
+      let z : 0 + length w ≡ length w = omega arith in
+      let h : length w ≤ length w = omega arith in
+      rw (e, z, le-leb (length w) (length w) h)
+
+module _ {A : Type 0} {r : List ℕ → ℕ → Out A} {code : A → List ℕ} {Form : A → Type 0} {Due : List ℕ → What → Type 0} (R : Reads r code Form) (S : Refuses r Due) (ws : List ℕ) where
+  abbrev Row : ℕ → ℕ → List ℕ → Type 0
+  Row = FormRow Due (λ us. (x : A) × Form x × (us ≡ code x)) ws
+
+  left-over : (x : A) (p : ℕ) → Spans ws 0 (code x) p → Form x → (b : Bool) → leb (length ws) p ≡ b → {e q w : ℕ} → need b 9 p (got x p) ≡ bad e q w → (us : List ℕ) × Row e q us × (w ≡ length us)
+  left-over x p s f true l h = absurd (let z : _≡_ {A = ℕ} 0 1 = cc in omega arith)
+  left-over x p s f false l {e} {q} {w} h =
+      let a : 9 ≡ e = cc in
+      let b : length (code x) ≡ q = let y : p ≡ q = cc in omega (arith, s .next) in
+      let c : w ≡ 1 = cc in
+      let v : ws ≡ code x ++ (getD ws p 0 ∷ drop (p + 1) ws) = s .words ∙ ap (λ (l : List ℕ). code x ++ l) (spans-word ws p (leb-false _ _ l) .words) in
+      (getD ws p 0 ∷ [], subst₂ (λ (i j : ℕ). Row i j (getD ws p 0 ∷ [])) a b (FormRow.leftOver (code x) (getD ws p 0) (drop (p + 1) ws) v (x, f, refl)), c)
+
+  due-row : {e p w : ℕ} → Why Due ws 0 e p w → (us : List ℕ) × Row e p us × (w ≡ length us)
+  due-row {e} {p} y = let z : length (y .came) + y .ahead ≡ p = omega (arith, y .place) in (y .shown, subst (λ (i : ℕ). Row e i (y .shown)) z (FormRow.due (y .came) (y .rest) (y .what) (y .words) (y .due) (y .fault)), y .count)
+
+  -- a refusal is that of a row
+  pub refused-row : {e p w : ℕ} → then (r ws 0) (λ x p. ended ws x p) ≡ bad e p w → (us : List ℕ) × Row e p us × (w ≡ length us)
+  unfolding ended
+  refused-row {e} {p} {w} h = go (R .sound ws 0) (S .why ws 0 (omega arith)) h
+    where
+      go : {o : Out A} → OK (λ x q. Spans ws 0 (code x) q × Form x) o → Stops Due ws 0 o → then o (λ x p. ended ws x p) ≡ bad e p w → (us : List ℕ) × Row e p us × (w ≡ length us)
+      go (fine {v = x} {p = q} s) went k = left-over x q (s .0) (s .1) (leb (length ws) q) refl k
+      go none (stops {e = i} {p = q} {w = j} y) k =
+          let a : i ≡ e = cc in
+          let b : q ≡ p = cc in
+          let c : j ≡ w = cc in
+          let (us, t, n) = due-row y in
+          (us, subst₂ (λ (i j : ℕ). Row i j us) a b t, sym c ∙ n)
+
+  -- and every row refuses
+  pub row-refused : {e p : ℕ} {us : List ℕ} → Row e p us → then (r ws 0) (λ x p. ended ws x p) ≡ bad e p (length us)
+  unfolding ended
+  row-refused (FormRow.due came rest what {q = q} {shown = shown} v d f) =
+      ap (λ (o : Out A). then o (λ x p. ended ws x p)) (S .so ws 0 (omega arith) (record { came = came; rest = rest; what = what; ahead = q; shown = shown; words = v; due = d; fault = f; place = omega arith; count = refl }))
+  row-refused (FormRow.leftOver us y rest v (x, f, z)) =
+      let k : ws ≡ code x ++ (y ∷ rest) = v ∙ ap (λ (l : List ℕ). l ++ (y ∷ rest)) z in
+      let i : 0 + length (code x) < length ws = omega (arith, ap length k, length-append (code x) (y ∷ rest)) in
+      let j : 0 + length (code x) ≡ length us = omega (arith, ap length z) in
+      ap (λ (o : Out A). then o (λ x p. ended ws x p)) (R .exact ws 0 x (y ∷ rest) k f) ∙ simp (lt-leb _ _ i) (ap (λ (l : ℕ). bad 9 l 1) j)

@@ -22,9 +22,12 @@ DossierAccepted = (D : Dossier) → DossierForm D → dossier (codeDossier D) �
 abbrev pub DossierOnce : Type 0
 DossierOnce = (D E : Dossier) → DossierForm D → DossierForm E → codeDossier D ≡ codeDossier E → D ≡ E
 
--- A refusal is a row of the table: what is wrong, and the words that are shown.
+-- A refusal is that of a row of the table, and every row refuses.
 abbrev pub DossierShows : Type 0
-DossierShows = (ws : List ℕ) (e p w : ℕ) → dossier ws ≡ bad e p w → (us : List ℕ) × DossierRow ws e p w us
+DossierShows = (ws : List ℕ) (e p w : ℕ) → dossier ws ≡ bad e p w → (us : List ℕ) × DossierRow ws e p us × (w ≡ length us)
+
+abbrev pub DossierRows : Type 0
+DossierRows = (ws : List ℕ) (e p : ℕ) (us : List ℕ) → DossierRow ws e p us → dossier ws ≡ bad e p (length us)
 
 -- "The longest sound dossier has 8,167 words."
 abbrev pub DossierLongest : Type 0

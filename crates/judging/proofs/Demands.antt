@@ -33,7 +33,8 @@ use Rattle.reply.specs.declared.Verdict as said
 use Rattle.reply.specs.declared.Verdict.the-variants as verdict
 use Rattle.verdict.specs.Told.{showing, replyAt, sizeOf}
 use Rattle.judging.specs.Judge.{judgeProposal, judgeRead, judgeOf}
-use Rattle.judging.specs.Demands.{SaysOpaque, SaysDetectable, SoundFor, Demand2, Demand3, AnswersMeant}
+use Rattle.judging.specs.Table.{SoundFor}
+use Rattle.judging.specs.Demands.{SaysOpaque, SaysDetectable, Demand2, Demand3, AnswersMeant}
 
 -- ---- a reply tells its outcome
 

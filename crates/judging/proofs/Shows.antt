@@ -21,7 +21,7 @@ use Rattle.promise.proofs.SeenEntry.{entries-seen}
 use Rattle.promise.proofs.SeenLine.{lines-seen}
 use Rattle.reply.specs.Part.{partOf}
 use Rattle.reply.proofs.Part.{fits}
-use Rattle.judging.specs.Demands.{SoundFor}
+use Rattle.judging.specs.Table.{SoundFor}
 
 -- a thing whose code is `code` stands at p, which is there, and `shown` gives its words
 pub record Stands {A : Type 0} (K : Kind A) (ws : List ℕ) (p there : ℕ) (code : List ℕ) : Type 0 where

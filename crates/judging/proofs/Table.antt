@@ -4,8 +4,7 @@ use mathlib.Core.Path.{_≡_, refl, sym, ap, ap₂, _∙_, subst, subst₂}
 use mathlib.Core.List.{List}
 use mathlib.Core.Option.{some, Option·some-injective, Option·none-ne-some}
 use native.Mathlib.Omega.{arith}
-use lib.ListN.{length, take}
-use lib.Seq.{drop-cons}
+use lib.ListN.{length}
 use lib.Dec.{leb}
 use borrow.Author.Tests.{le-leb, lt-leb, leb-true, leb-false}
 use mathlib.Core.Bool.{Bool, true, false}
@@ -22,12 +21,12 @@ use Rattle.promise.specs.Form.{DossierForm, PartsForm}
 use Rattle.promise.specs.Layout.{layoutOf, proposalOf}
 use Rattle.promise.specs.Place.{Kind}
 use Rattle.promise.specs.Line.{line}
-use Rattle.promise.specs.Table.{Sheet, Wrong, FormRow}
+use Rattle.promise.proofs.Table.{Shows, row-shows, certificate-shows}
 use Rattle.promise.specs.Thing.{nextOf}
 use Rattle.dossier.specs.Read.{dossier}
-use Rattle.dossier.proofs.Promise.{dossierSound, dossierAccepted, dossierShows}
+use Rattle.dossier.proofs.Promise.{dossierSound, dossierAccepted, dossierShows, dossierRows}
 use Rattle.certificate.specs.Read.{certificate}
-use Rattle.certificate.proofs.Promise.{certificateSound, certificateShows}
+use Rattle.certificate.proofs.Promise.{certificateSound, certificateShows, certificateRows}
 use Rattle.reply.specs.Answer.{numberOf, refused}
 use Rattle.reply.specs.Part.{partOf}
 use Rattle.reply.specs.Shown.{shownOf}
@@ -38,7 +37,8 @@ use Rattle.reply.proofs.Part.{fits}
 use Rattle.verdict.specs.Told.{showing, replyAt, sizeOf}
 use Rattle.judging.specs.Judge.{judgeProposal, judgeRead, judgeOf}
 use Rattle.judging.specs.Answers.{countOf, tableOf, answersOf, tableAfter}
-use Rattle.judging.specs.Table.{Both, Row, AnswersRow, partShown, Demand1}
+use Rattle.judging.specs.Table.{Both, Row, AnswersRow, partShown}
+use Rattle.judging.specs.Demands.{Demand1}
 use Rattle.judging.specs.declared.Answered.{Answered}
 use Rattle.judging.specs.declared.Answered.the-variants.{Refused}
 use Rattle.judging.proofs.Judged.{answers-refused}
@@ -47,30 +47,11 @@ use Rattle.judging.proofs.Shows.{Stands, entries, probe-stands, secret-
 
 -- ---- the rows of form
 
-module _ {N M : ℕ → Type 0} {Whole : List ℕ → Type 0} {ws : List ℕ} where
-  wrong-number : {s : Sheet} {e p : ℕ} → Wrong N M Whole ws s e p → (1 ≤ e) × (e ≤ 13)
-  wrong-number (Wrong.limits l f) = (omega arith, omega arith)
-  wrong-number (Wrong.atom n h) = (omega arith, omega arith)
-  wrong-number (Wrong.inFormula n h g) = (omega arith, omega arith)
-  wrong-number (Wrong.order q z h) = (omega arith, omega arith)
-  wrong-number (Wrong.mark h) = (omega arith, omega arith)
-  wrong-number (Wrong.credential m h) = (omega arith, omega arith)
-  wrong-number (Wrong.word h) = (omega arith, omega arith)
-  wrong-number (Wrong.formula f) = (omega arith, omega arith)
-  wrong-number (Wrong.leftOver w) = (omega arith, omega arith)
-  wrong-number (Wrong.kind f g) = (omega arith, omega arith)
-  wrong-number (Wrong.rule f) = (omega arith, omega arith)
-  wrong-number (Wrong.twice q before l m rest w z i h) = (omega arith, omega arith)
+shown-part : {ws : List ℕ} {e p : ℕ} {us : List ℕ} → Shows ws e p us → us ≡ partOf ws p (length us)
+shown-part {ws} {p = p} {us} s = sym (fits ws p (length us) (s .inside) ∙ s .words)
 
-  form-number : {s : Sheet} {e p w : ℕ} {us : List ℕ} → FormRow N M Whole ws s e p w us → (1 ≤ e) × (e ≤ 13)
-  form-number FormRow.ended = (omega arith, omega arith)
-  form-number (FormRow.shown f h) = wrong-number f
-  form-number (FormRow.long h) = (omega arith, omega arith)
-
-  form-shown : {s : Sheet} {e p w : ℕ} {us : List ℕ} → FormRow N M Whole ws s e p w us → us ≡ partOf ws p w
-  form-shown FormRow.ended = sym (fits ws (length ws) 0 (omega arith))
-  form-shown (FormRow.shown {p = p} f h) = sym (fits ws p 1 (omega arith) ∙ ap (take 1) (drop-cons ws p 0 h))
-  form-shown (FormRow.long h) = sym (fits ws 0 0 (omega arith))
+sound-read : (d : List ℕ) (D : papers.Dossier) → d ≡ codeDossier D → DossierForm D → dossier d ≡ got D (length (codeDossier D))
+sound-read d D e f = ap dossier e ∙ dossierAccepted D f
 
 -- ---- the rows of meaning
 
@@ -100,9 +81,11 @@ module _ {d c : List ℕ} {D : papers.Dossier} {C : papers.Certificate} (b : Bot
 module _ (d c : List ℕ) where
   row-gives : (r : Reply) (us : List ℕ) → Row d c r us → Gives d c r us
   unfolding judgeOf judgeRead judgeProposal shownOf replyAt showing nextOf layoutOf proposalOf
-  row-gives r us (Row.inDossier h s) = (ap (λ (x : Out papers.Dossier). judgeRead d x c) (sym h), form-shown s)
-  row-gives r us (Row.inCertificate {D = D} h g s) =
-      (ap (λ (x : Out papers.Certificate). judgeProposal d D c x) (sym g) ∙ ap (λ (x : Out papers.Dossier). judgeRead d x c) (sym h), form-shown s)
+  row-gives r us (Row.inDossier s) = (ap (λ (x : Out papers.Dossier). judgeRead d x c) (sym (dossierRows d _ _ us s)), shown-part (row-shows s))
+  row-gives r us (Row.inCertificate D e f s) = (
+    ap (λ (x : Out papers.Certificate). judgeProposal d D c x) (sym (certificateRows _ _ c _ _ us s)) ∙ ap (λ (x : Out papers.Dossier). judgeRead d x c) (sym (sound-read d D e f)),
+    shown-part (certificate-shows s),
+  )
   row-gives r us (Row.opaque D W b w) = gives b meant.opaque w refl (fits _ 0 0 (omega arith))
   row-gives r us (Row.detectable D ls b w) = gives b meant.detectable w refl (fits _ 0 0 (omega arith))
   row-gives r us (Row.probe D W k e b w h) = let s = probe-stands D (b .form) k e h in gives b (meant.probeDiffers k) w (refused-at 14 Dossier (entries D (b .form)) _ _ _ _ s) (s .shown)
@@ -135,11 +118,11 @@ module _ (d c : List ℕ) where
       let s = dossierSound d D q h in
       let z = certificateSound (length (D .labels)) (length (D .creds)) c C t e in
       by-meaning D C (record { dossierWords = s .0; certificateWords = z .0; form = s .1; sound = z .1 }) (meant.judge D C) (shown.demand2 D C (meant.judge D C) .0 refl)
-  by-certificate D q h (bad e p w) g = let (us, s) = certificateShows (length (D .labels)) (length (D .creds)) c e p w g in (_, (us, Row.inCertificate h g s))
+  by-certificate D q h (bad e p w) g = let (us, r, z) = certificateShows (length (D .labels)) (length (D .creds)) c e p w g in let s = dossierSound d D q h in (_, (us, Row.inCertificate D (s .0) (s .1) r))
 
   by-dossier : (out : Out papers.Dossier) → dossier d ≡ out → Applies
   by-dossier (got D q) e = by-certificate D q e (certificate (length (D .labels)) (length (D .creds)) c) refl
-  by-dossier (bad e p w) g = let (us, s) = dossierShows d e p w g in (_, (us, Row.inDossier g s))
+  by-dossier (bad e p w) g = let (us, s, z) = dossierShows d e p w g in (_, (us, Row.inDossier s))
 
   row : Row d c (judgeOf d c) (shownOf d c (judgeOf d c))
   row =
@@ -150,8 +133,8 @@ module _ (d c : List ℕ) where
   -- ---- its number is in the table
 
   row-number : (r : Reply) (us : List ℕ) → Row d c r us → (k : ℕ) → numberOf (r .verdict) ≡ some k → (1 ≤ k) × (k ≤ 17)
-  row-number r us (Row.inDossier h s) k e = let n = form-number s in of-number e (n .0) (omega (arith, n .1))
-  row-number r us (Row.inCertificate h g s) k e = let n = form-number s in of-number e (n .0) (omega (arith, n .1))
+  row-number r us (Row.inDossier s) k e = let n = row-shows s in of-number e (n .least) (omega (arith, n .most))
+  row-number r us (Row.inCertificate D h f s) k e = let n = certificate-shows s in of-number e (n .least) (omega (arith, n .most))
   row-number r us (Row.opaque D W b w) k e = absurd (Option·none-ne-some k e)
   row-number r us (Row.detectable D ls b w) k e = absurd (Option·none-ne-some k e)
   row-number r us (Row.probe D W j x b w h) k e = of-number e (omega arith) (omega arith)
@@ -165,18 +148,15 @@ module _ (d t : List ℕ) where
   abbrev Answers : Answered → List ℕ → List ℕ → Type 0
   Answers r us u = (r ≡ answersOf d t) × (us ≡ partShown d r) × (u ≡ tableAfter d t)
 
-  sound-read : (D : papers.Dossier) → d ≡ codeDossier D → DossierForm D → dossier d ≡ got D (length (codeDossier D))
-  sound-read D e f = ap dossier e ∙ dossierAccepted D f
-
   answers-give : (r : Answered) (us u : List ℕ) → AnswersRow d t r us u → Answers r us u
   unfolding answersOf tableAfter countOf tableOf choose
-  answers-give r us u (AnswersRow.form h s) = let k = answers-refused d t h in (k .0, form-shown s, k .1)
+  answers-give r us u (AnswersRow.form s) = let k = answers-refused d t (dossierRows d _ _ us s) in (k .0, shown-part (row-shows s), k .1)
   answers-give r us u (AnswersRow.short D e f l) =
-      let h = sound-read D e f in
+      let h = sound-read d D e f in
       let q = lt-leb _ _ l in
       (sym (ap (λ (x : Out papers.Dossier). countOf x t) h ∙ (rw q refl)), sym (fits d 0 0 (omega arith)), sym (ap (λ (x : Out papers.Dossier). tableOf x t) h ∙ (rw q refl)))
   answers-give r us u (AnswersRow.count D e f l) =
-      let h = sound-read D e f in
+      let h = sound-read d D e f in
       let q = le-leb _ _ l in
       (sym (ap (λ (x : Out papers.Dossier). countOf x t) h ∙ (rw q refl)), sym (fits d 0 0 (omega arith)), sym (ap (λ (x : Out papers.Dossier). tableOf x t) h ∙ (rw q refl)))
 
@@ -189,7 +169,7 @@ module _ (d t : List ℕ) where
 
   by-form : (out : Out papers.Dossier) → dossier d ≡ out → Answering
   by-form (got D q) e = let s = dossierSound d D q e in by-room D (s .0) (s .1) (leb (length (D .probes)) (length t)) refl
-  by-form (bad e p w) g = let (us, s) = dossierShows d e p w g in (_, (us, (_, AnswersRow.form g s)))
+  by-form (bad e p w) g = let (us, s, z) = dossierShows d e p w g in (_, (us, (_, AnswersRow.form s)))
 
   answers-row : AnswersRow d t (answersOf d t) (partShown d (answersOf d t)) (tableAfter d t)
   answers-row =
@@ -198,10 +178,10 @@ module _ (d t : List ℕ) where
       subst (λ (v : List ℕ). AnswersRow d t (answersOf d t) (partShown d (answersOf d t)) v) (g .2) (subst₂ (λ (x : Answered) (y : List ℕ). AnswersRow d t x y u) (g .0) (g .1 ∙ ap (partShown d) (g .0)) s)
 
   answers-number : (r : Answered) (us u : List ℕ) → AnswersRow d t r us u → (k p w : ℕ) → r ≡ Refused k p w → (1 ≤ k) × (k ≤ 18)
-  answers-number r us u (AnswersRow.form {e = e} h s) k p w q =
-      let n = form-number s in
+  answers-number r us u (AnswersRow.form {e = e} s) k p w q =
+      let n = row-shows s in
       let z : e ≡ k = cc in
-      (omega (arith, n .0), omega (arith, n .1))
+      (omega (arith, n .least), omega (arith, n .most))
   answers-number r us u (AnswersRow.short D e f l) k p w q = let z : _≡_ {A = ℕ} 18 k = cc in (omega arith, omega arith)
   answers-number r us u (AnswersRow.count D e f l) k p w q = absurd (let z : _≡_ {A = ℕ} 0 1 = cc in omega arith)
 

@@ -1,10 +1,9 @@
--- The customer's demands 2 and 3, over words (demand 1: Table.antt). proofs/Demands.antt has each under the same name in small letters.
+-- The customer's three demands, over words. proofs/Table.antt has the first, proofs/Demands.antt the others, each under the same name in small letters.
 use mathlib.Core.Path.{_≡_}
 use mathlib.Core.List.{List}
 use mathlib.Core.Logic.{_↔_}
 use mathlib.Core.Option.{some}
 use Prim.Native.Nat.{ℕ, _≤_}
-use lib.ListN.{length}
 use Rattle.meaning.specs.Tests.{at}
 use Rattle.meaning.specs.Papers.{Entry, Dossier, policy, Yes, Certificate}
 use Rattle.meaning.specs.Looks.{Detectable}
@@ -12,11 +11,29 @@ use Rattle.meaning.specs.Verdict as meant
 use Rattle.meaning.specs.Demands.{When}
 use Rattle.meaning.specs.Extends.{Extends}
 use Rattle.promise.specs.Code.{codeDossier, codeCertificate}
-use Rattle.promise.specs.Form.{DossierForm, CertificateForm}
-use Rattle.reply.specs.Answer.{accepted}
+use Rattle.promise.specs.Form.{DossierForm}
+use Rattle.reply.specs.Answer.{numberOf, accepted}
+use Rattle.reply.specs.Shown.{shownOf}
+use Rattle.reply.specs.declared.Reply.{Reply}
 use Rattle.reply.specs.declared.Verdict.the-variants as verdict
 use Rattle.judging.specs.Judge.{judgeOf}
-use Rattle.judging.specs.Answers.{wordTo}
+use Rattle.judging.specs.Answers.{wordTo, answersOf, tableAfter}
+use Rattle.judging.specs.Table.{SoundFor, Row, AnswersRow, partShown}
+use Rattle.judging.specs.declared.Answered.{Answered}
+use Rattle.judging.specs.declared.Answered.the-variants.{Refused}
+
+-- "Every dossier and certificate, however damaged, gets one reply: opaque, detectable, or a numbered refusal that shows the words at fault. Neither paper is altered; a refused
+-- answers table keeps its contents." (The papers are lent for reading alone; `AnswersRow` has the table after each reply.)
+pub record Demand1 : Type 0 where
+  -- the judge's reply is that of a row, and what is shown for it is what the row names; no other row applies
+  pub row : (d c : List ℕ) → Row d c (judgeOf d c) (shownOf d c (judgeOf d c))
+  pub only : (d c : List ℕ) (r : Reply) (us : List ℕ) → Row d c r us → (r ≡ judgeOf d c) × (us ≡ shownOf d c r)
+  -- its number, if it has one, is in the table
+  pub number : (d c : List ℕ) (k : ℕ) → numberOf (judgeOf d c .verdict) ≡ some k → (1 ≤ k) × (k ≤ 17)
+  -- and so for the answers entry: 19 is never given
+  pub answersRow : (d t : List ℕ) → AnswersRow d t (answersOf d t) (partShown d (answersOf d t)) (tableAfter d t)
+  pub answersOnly : (d t : List ℕ) (r : Answered) (us u : List ℕ) → AnswersRow d t r us u → (r ≡ answersOf d t) × (us ≡ partShown d r) × (u ≡ tableAfter d t)
+  pub answersNumber : (d t : List ℕ) (k p w : ℕ) → answersOf d t ≡ Refused k p w → (1 ≤ k) × (k ≤ 18)
 
 -- the judge's two acceptances of words
 abbrev pub SaysOpaque : List ℕ → List ℕ → Type 0
@@ -24,10 +41,6 @@ SaysOpaque d c = judgeOf d c ≡ accepted verdict.Opaque
 
 abbrev pub SaysDetectable : List ℕ → List ℕ → Type 0
 SaysDetectable d c = judgeOf d c ≡ accepted verdict.Detectable
-
--- a certificate that is sound in form for D
-abbrev pub SoundFor : Dossier → Certificate → Type 0
-SoundFor D C = CertificateForm (length (D .labels)) (length (D .creds)) C
 
 -- "Both papers sound in form: a witness is accepted exactly when, with the visible clauses, it answers every probe as the dossier's policy does and makes the secret
 -- false, by the published Datalog meaning. A proof is accepted exactly when each line follows by its stated rule and the last is empty." (`When` has both, by rows.)

@@ -1,5 +1,5 @@
 pub mod Judge
 pub mod Answers
 pub mod Cases
-pub mod Demands
 pub mod Table
+pub mod Demands

@@ -1,10 +1,9 @@
--- Demand 1: every two lists of words get one reply, and it is a row of 01's table ("What the reply says").
+-- 01's table ("What the reply says"), for the judge and for the answers entry. The rows of form, 1 to 13, are promise/specs/Table.antt.
 use Prim.Native.Nat.{ℕ, _+_, _-_, _<_, _≤_}
 use mathlib.Core.Path.{_≡_}
 use mathlib.Core.List.{List, []}
 use mathlib.Core.Option.{some}
 use lib.ListN.{length, take}
-use Rattle.words.specs.Out.{got, bad}
 use Rattle.words.specs.Code.{codeAll}
 use Rattle.meaning.specs.Tests.{at}
 use Rattle.meaning.specs.Policy.{Policy}
@@ -13,23 +12,22 @@ use Rattle.meaning.specs.Papers.{Entry, Line, witness, proof}
 use Rattle.meaning.specs.Verdict as meant
 use Rattle.meaning.specs.Demands.{When}
 use Rattle.promise.specs.Code.{codeEntry, codeLine, codeDossier, codeCertificate}
-use Rattle.promise.specs.Form.{DossierForm}
+use Rattle.promise.specs.Form.{DossierForm, CertificateForm}
 use Rattle.promise.specs.Layout.{probesAt, secretAt}
 use Rattle.promise.specs.Place.{filled}
 use Rattle.promise.specs.Table.{DossierRow, CertificateRow}
-use Rattle.dossier.specs.Read.{dossier}
-use Rattle.certificate.specs.Read.{certificate}
-use Rattle.reply.specs.Answer.{numberOf, accepted, refused}
+use Rattle.reply.specs.Answer.{accepted, refused}
 use Rattle.reply.specs.Part.{partOf}
-use Rattle.reply.specs.Shown.{shownOf}
 use Rattle.reply.specs.declared.Paper.the-variants.{Dossier, Certificate}
 use Rattle.reply.specs.declared.Reply.{Reply}
 use Rattle.reply.specs.declared.Verdict.the-variants.{Opaque, Detectable}
-use Rattle.judging.specs.Judge.{judgeOf}
-use Rattle.judging.specs.Answers.{wordTo, answersOf, tableAfter}
-use Rattle.judging.specs.Demands.{SoundFor}
+use Rattle.judging.specs.Answers.{wordTo}
 use Rattle.judging.specs.declared.Answered.{Answered}
 use Rattle.judging.specs.declared.Answered.the-variants.{Count, Refused}
+
+-- a certificate that is sound in form for D
+abbrev pub SoundFor : papers.Dossier → papers.Certificate → Type 0
+SoundFor D C = CertificateForm (length (D .labels)) (length (D .creds)) C
 
 -- the words d and c are those of two papers that are sound in form
 pub record Both (d c : List ℕ) (D : papers.Dossier) (C : papers.Certificate) : Type 0 where
@@ -41,11 +39,11 @@ pub record Both (d c : List ℕ) (D : papers.Dossier) (C : papers.Certificate) :
 -- The rows, for the words d and c: the reply, and the words that are shown. (18 is the answers entry's.)
 -- "Order: the dossier's form from left to right; 10; the certificate's form from left to right; then meaning."
 pub data Row (d c : List ℕ) : Reply → List ℕ → Type 0 where
-  -- 1 to 9 in the dossier: number e at place p is what reading it from left to right comes to; `DossierRow` has each number's row
-  inDossier : {e p w : ℕ} {us : List ℕ} → dossier d ≡ bad e p w → DossierRow d e p w us → Row d c (refused e Dossier p w) us
-  -- 1 to 6 and 9 to 13 in the certificate, with a sound dossier; `CertificateRow` has each number's row
-  inCertificate : {D : papers.Dossier} {q e p w : ℕ} {us : List ℕ} → dossier d ≡ got D q → certificate (length (D .labels)) (length (D .creds)) c ≡ bad e p w
-      → CertificateRow (length (D .labels)) (length (D .creds)) c e p w us → Row d c (refused e Certificate p w) us
+  -- 1 to 9 in the dossier
+  inDossier : {e p : ℕ} {us : List ℕ} → DossierRow d e p us → Row d c (refused e Dossier p (length us)) us
+  -- 1 to 6 and 9 to 13 in the certificate, with a sound dossier
+  inCertificate : (D : papers.Dossier) {e p : ℕ} {us : List ℕ} → d ≡ codeDossier D → DossierForm D → CertificateRow (length (D .labels)) (length (D .creds)) c e p us
+      → Row d c (refused e Certificate p (length us)) us
   -- "For an acceptance: certificate, place 0, empty part."
   opaque : (D : papers.Dossier) (W : Policy) → Both d c D (witness W) → When D (witness W) meant.opaque → Row d c (accepted Opaque) []
   detectable : (D : papers.Dossier) (ls : List Line) → Both d c D (proof ls) → When D (proof ls) meant.detectable → Row d c (accepted Detectable) []
@@ -65,7 +63,7 @@ pub data Row (d c : List ℕ) : Reply → List ℕ → Type 0 where
 -- The answers entry's rows, for the dossier's words d and the table t: the reply, the words of the dossier that are shown, and what the table then holds.
 pub data AnswersRow (d t : List ℕ) : Answered → List ℕ → List ℕ → Type 0 where
   -- 1 to 9
-  form : {e p w : ℕ} {us : List ℕ} → dossier d ≡ bad e p w → DossierRow d e p w us → AnswersRow d t (Refused e p w) us t
+  form : {e p : ℕ} {us : List ℕ} → DossierRow d e p us → AnswersRow d t (Refused e p (length us)) us t
   -- 18: "answers table shorter than the probe count": "empty part at the dossier's start"
   short : (D : papers.Dossier) → d ≡ codeDossier D → DossierForm D → length t < length (D .probes) → AnswersRow d t (Refused 18 0 0) [] t
   -- "replies with the count; words beyond stay"
@@ -75,14 +73,3 @@ pub data AnswersRow (d t : List ℕ) : Answered → List ℕ → List ℕ → Ty
 abbrev pub partShown : List ℕ → Answered → List ℕ
 partShown d (Count k) = partOf d 0 0
 partShown d (Refused e p w) = partOf d p w
-
-pub record Demand1 : Type 0 where
-  -- the judge's reply is that of a row, and what is shown for it is what the row names; no other row applies
-  pub row : (d c : List ℕ) → Row d c (judgeOf d c) (shownOf d c (judgeOf d c))
-  pub only : (d c : List ℕ) (r : Reply) (us : List ℕ) → Row d c r us → (r ≡ judgeOf d c) × (us ≡ shownOf d c r)
-  -- its number, if it has one, is in the table
-  pub number : (d c : List ℕ) (k : ℕ) → numberOf (judgeOf d c .verdict) ≡ some k → (1 ≤ k) × (k ≤ 17)
-  -- and so for the answers entry: 19 is never given
-  pub answersRow : (d t : List ℕ) → AnswersRow d t (answersOf d t) (partShown d (answersOf d t)) (tableAfter d t)
-  pub answersOnly : (d t : List ℕ) (r : Answered) (us u : List ℕ) → AnswersRow d t r us u → (r ≡ answersOf d t) × (us ≡ partShown d r) × (u ≡ tableAfter d t)
-  pub answersNumber : (d t : List ℕ) (k p w : ℕ) → answersOf d t ≡ Refused k p w → (1 ≤ k) × (k ≤ 18)

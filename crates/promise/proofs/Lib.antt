@@ -4,5 +4,7 @@ pub mod Seen
 pub mod SeenEntry
 pub mod SeenLine
 pub mod Decoded
-pub mod Table
 pub mod Step
+pub mod Refused
+pub mod Due
+pub mod Table

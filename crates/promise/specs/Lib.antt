@@ -7,4 +7,5 @@ pub mod Line
 pub mod Thing
 pub mod Layout
 pub mod Promise
+pub mod Due
 pub mod Table

@@ -1,101 +1,86 @@
--- 01's table of refusals ("What the reply says"), the rows of form: 1 to 13, as facts of the words shown. The words are those of one paper, ws.
--- A row does not say what is due at its place (which count, an atom, a mark): that is what reading from left to right says, in the readers' specs/Read.antt.
--- N n says that the dossier has n atoms, M m that it has m credentials; Whole us that the words us are a whole paper.
-use Prim.Native.Nat.{ℕ, _+_, _≤_, _<_}
+-- 01's table of refusals ("What the reply says"), the rows of form: 1 to 13.
+use Prim.Native.Nat.{ℕ, suc, _+_, _≤_, _<_}
 use mathlib.Core.Path.{_≡_}
 use mathlib.Core.List.{List, [], _∷_, _++_}
-use lib.ListN.{length, getD, take, drop}
-use Rattle.words.specs.Code.{codeList, codeAll, codeMany}
+use lib.ListN.{length}
+use Rattle.words.specs.Code.{codeList}
 use Rattle.meaning.specs.Tests.{_∈_}
-use Rattle.meaning.specs.Policy.{Clause}
 use Rattle.meaning.specs.Formula.{Formula}
-use Rattle.meaning.specs.Papers.{Marked, Dossier, Literal, Certificate}
-use Rattle.promise.specs.Code.{codeClause, codeMarked, codeFormula, codeLiteral, codeDossier, codeCertificate}
-use Rattle.promise.specs.Form.{FormulaForm, DossierForm, PartsForm}
-use Rattle.promise.specs.Place.{part}
+use Rattle.meaning.specs.Papers.{Dossier, Literal, Certificate}
+use Rattle.promise.specs.Code.{bit, codeFormula, codeLiteral, codeDossier, codeCertificate}
+use Rattle.promise.specs.Form.{FormulaForm, StatementForm, DossierForm, PartsForm}
+use Rattle.promise.specs.Due.{Word, count, label, atom, credential, mark, kind, rule, What, one, formula, literal, InDossier, InCertificate}
 
--- the least and the most that a count or a length may be
-pub data Limits : ℕ → ℕ → Type 0 where
-  -- "n (1 to 64)", "Clause count (0 to 128)", "body count (0 to 8)", "Credential count (0 to 32)", "Probe count (0 to 64)"
-  atoms : Limits 1 64
-  clauses : Limits 0 128
-  body : Limits 0 8
-  creds : Limits 0 32
-  probes : Limits 0 64
-  -- of an entry: "credential count (0 to 32)", "formula length (1 to 64)"; "A count that must be 1, then the secret"
-  named : Limits 0 32
-  formula : Limits 1 64
-  secret : Limits 1 1
-  -- "line count (1 to 1,024)", "literal count (0 to 8)"; of a literal: "credential count (0 to 32)", "atom count (0 to 8)"
-  lines : Limits 1 1024
-  literals : Limits 0 8
-  supposed : Limits 0 8
-
--- which of the two papers
-pub data Sheet : Type 0 where
-  dossier certificate : Sheet
-
--- the rows that show a word: the number, and the place of the word
-pub data Wrong (N M : ℕ → Type 0) (Whole : List ℕ → Type 0) (ws : List ℕ) : Sheet → ℕ → ℕ → Type 0 where
-  -- 2: "a count or length outside its limits". Of some count of 01: since the secret's must be 1, this holds of every word but 1.
-  limits : {s : Sheet} {p lo hi : ℕ} → Limits lo hi → (lo ≤ getD ws p 0 → getD ws p 0 ≤ hi → ⊥) → Wrong N M Whole ws s 2 p
-  -- 3: "an atom number not below n (in a formula, n to 255)"
-  atom : {s : Sheet} {p n : ℕ} → N n → n ≤ getD ws p 0 → Wrong N M Whole ws s 3 p
-  inFormula : {p n : ℕ} → N n → n ≤ getD ws p 0 → getD ws p 0 < 256 → Wrong N M Whole ws dossier 3 p
+-- The rows that show a word tested by itself: what is due, the word that is there, and the number. "A word is tested for presence, then range, then rising order."
+pub data Wrong : Word → ℕ → ℕ → Type 0 where
+  -- 2: "a count or length outside its limits"
+  limits : {lo hi x : ℕ} → (lo ≤ x → x ≤ hi → ⊥) → Wrong (count lo hi) x 2
+  -- 3: "an atom number not below n"
+  noAtom : {n low x : ℕ} → n ≤ x → Wrong (atom n low) x 3
   -- 4: "a list not strictly rising": "the later word"
-  order : {s : Sheet} {p : ℕ} (q : ℕ) → p ≡ q + 1 → getD ws p 0 ≤ getD ws q 0 → Wrong N M Whole ws s 4 p
+  labelOrder : {low x : ℕ} → x < low → Wrong (label low) x 4
+  atomOrder : {n low x : ℕ} → x < n → x < low → Wrong (atom n low) x 4
+  credOrder : {m low x : ℕ} → x < m → x < low → Wrong (credential m low) x 4
   -- 5: "a mark or sign above 1"
-  mark : {s : Sheet} {p : ℕ} → 1 < getD ws p 0 → Wrong N M Whole ws s 5 p
+  noMark : {x : ℕ} → 1 < x → Wrong mark x 5
   -- 6: "a credential number not below the count"
-  credential : {s : Sheet} {p m : ℕ} → M m → m ≤ getD ws p 0 → Wrong N M Whole ws s 6 p
-  -- 7: "a formula word above 259"
-  word : {p : ℕ} → 259 < getD ws p 0 → Wrong N M Whole ws dossier 7 p
-  -- 8: "a formula too deep, or not exactly its length": "its length word". The words after it, so many, are those of no formula that is at most 16 deep.
-  formula : {p : ℕ} → ((f : Formula) → FormulaForm 256 16 f → part ws (p + 1) (getD ws p 0) ≡ codeFormula f → ⊥) → Wrong N M Whole ws dossier 8 p
-  -- 9: "words left over": "the first of them"
-  leftOver : {s : Sheet} {p : ℕ} → Whole (take p ws) → Wrong N M Whole ws s 9 p
+  noCred : {m low x : ℕ} → m ≤ x → Wrong (credential m low) x 6
   -- 11: "certificate kind not 1 or 2"
-  kind : {p : ℕ} → (getD ws p 0 ≡ 1 → ⊥) → (getD ws p 0 ≡ 2 → ⊥) → Wrong N M Whole ws certificate 11 p
+  noKind : {x : ℕ} → (x ≡ 1 → ⊥) → (x ≡ 2 → ⊥) → Wrong kind x 11
   -- 12: "rule not 1 to 8"
-  rule : {p : ℕ} → (1 ≤ getD ws p 0 → getD ws p 0 ≤ 8 → ⊥) → Wrong N M Whole ws certificate 12 p
-  -- 13: "a statement named twice in a line": "the later literal's sign". From q on lie the line's literals up to l, whose sign is at p; one of those before has its statement.
-  twice : {p : ℕ} (q : ℕ) (before : List Literal) (l m : Literal) (rest : List ℕ) → drop q ws ≡ codeAll codeLiteral before ++ (codeLiteral l ++ rest) → p ≡ q + length (codeAll codeLiteral before)
-      → m ∈ before → m .said ≡ l .said → Wrong N M Whole ws certificate 13 p
+  noRule : {x : ℕ} → (1 ≤ x → x ≤ 8 → ⊥) → Wrong rule x 12
 
--- all rows: the number, the place, the count of words shown, and those words
-pub data FormRow (N M : ℕ → Type 0) (Whole : List ℕ → Type 0) (ws : List ℕ) : Sheet → ℕ → ℕ → ℕ → List ℕ → Type 0 where
+-- "formula length (1 to 64)"
+pub record LengthForm (fs : List ℕ) : Type 0 where
+  pub least : 1 ≤ length fs
+  pub most : length fs ≤ 64
+
+-- "each operand in turn": the formula may be d deep, the words us of it have come, and the operand that is due next may be k deep
+pub data Operand (n : ℕ) : ℕ → List ℕ → ℕ → Type 0 where
+  first : {d : ℕ} → Operand n d [] d
+  neg : {d k : ℕ} {us : List ℕ} → Operand n d us k → Operand n (suc d) (257 ∷ us) k
+  left : {d k : ℕ} {us : List ℕ} (x : ℕ) → 258 ≤ x → x ≤ 259 → Operand n d us k → Operand n (suc d) (x ∷ us) k
+  right : {d k : ℕ} {us : List ℕ} (x : ℕ) (f : Formula) → 258 ≤ x → x ≤ 259 → FormulaForm n d f → Operand n d us k → Operand n (suc d) (x ∷ (codeFormula f ++ us)) k
+
+-- All rows: what is due, the words of the paper from there on, the number, the place counted from there, and the words shown.
+pub data Fault : What → List ℕ → ℕ → ℕ → List ℕ → Type 0 where
   -- 1: "a word is needed and the paper has ended": "empty part at its end"
-  ended : {s : Sheet} → FormRow N M Whole ws s 1 (length ws) 0 []
-  -- 2 to 9 and 11 to 13: "that word"
-  shown : {s : Sheet} {e p : ℕ} → Wrong N M Whole ws s e p → p < length ws → FormRow N M Whole ws s e p 1 (getD ws p 0 ∷ [])
-  -- 10: "certificate above 24,000 words": "empty part at its start"
-  long : 24000 < length ws → FormRow N M Whole ws certificate 10 0 0 []
+  ended : {what : What} → Fault what [] 1 0 []
+  -- the rows above: "that word"
+  word : {w : Word} {x e : ℕ} {rest : List ℕ} → Wrong w x e → Fault (one w) (x ∷ rest) e 0 (x ∷ [])
+  -- of a formula: "A formula's length is tested (2), then that so many words remain (1), then each word: depth, then kind."
+  noLength : {n x e : ℕ} {rest : List ℕ} → Wrong (count 1 64) x e → Fault (formula n) (x ∷ rest) e 0 (x ∷ [])
+  fewRemain : {n len : ℕ} {fs : List ℕ} → 1 ≤ len → len ≤ 64 → length fs < len → Fault (formula n) (len ∷ fs) 1 (1 + length fs) []
+  -- 3: "in a formula, n to 255"; 7: "a formula word above 259": "that word"
+  high : {n d x : ℕ} (us fs rest : List ℕ) → LengthForm (us ++ (x ∷ fs)) → Operand n 16 us (suc d) → n ≤ x → x ≤ 255 → Fault (formula n) (codeList (us ++ (x ∷ fs)) ++ rest) 3 (1 + length us) (x ∷ [])
+  unknown : {n d x : ℕ} (us fs rest : List ℕ) → LengthForm (us ++ (x ∷ fs)) → Operand n 16 us (suc d) → 259 < x → Fault (formula n) (codeList (us ++ (x ∷ fs)) ++ rest) 7 (1 + length us) (x ∷ [])
+  -- 8: "a formula too deep, or not exactly its length": "its length word". "A formula complete before its length ends is 8 without a look at the words left; one that needs a word past its length is 8 too."
+  tooDeep : {n : ℕ} (us fs rest : List ℕ) → LengthForm (us ++ fs) → Operand n 16 us 0 → Fault (formula n) (codeList (us ++ fs) ++ rest) 8 0 (length (us ++ fs) ∷ [])
+  complete : {n : ℕ} (f : Formula) (x : ℕ) (fs rest : List ℕ) → LengthForm (codeFormula f ++ (x ∷ fs)) → FormulaForm n 16 f → Fault (formula n) (codeList (codeFormula f ++ (x ∷ fs)) ++ rest) 8 0 (length (codeFormula f ++ (x ∷ fs)) ∷ [])
+  needs : {n d : ℕ} (fs rest : List ℕ) → LengthForm fs → Operand n 16 fs d → Fault (formula n) (codeList fs ++ rest) 8 0 (length fs ∷ [])
+  -- 13: "a statement named twice in a line": "the later literal's sign". "13 is tested when the later literal's last word has passed."
+  twice : {n m : ℕ} {before : List Literal} (l x : Literal) (rest : List ℕ) → StatementForm n m (l .said) → x ∈ before → x .said ≡ l .said → Fault (literal n m before) (codeLiteral l ++ rest) 13 0 (bit (l .positive) ∷ [])
+
+-- Of a paper whose words are ws: the number, the place, and the words shown. Due says what is due after words that are sound so far, Whole which words are a whole paper.
+pub data FormRow (Due : List ℕ → What → Type 0) (Whole : List ℕ → Type 0) (ws : List ℕ) : ℕ → ℕ → List ℕ → Type 0 where
+  due : (us rest : List ℕ) (what : What) {e q : ℕ} {shown : List ℕ} → ws ≡ us ++ rest → Due us what → Fault what rest e q shown → FormRow Due Whole ws e (length us + q) shown
+  -- 9: "words left over": "the first of them"
+  leftOver : (us : List ℕ) (x : ℕ) (rest : List ℕ) → ws ≡ us ++ (x ∷ rest) → Whole us → FormRow Due Whole ws 9 (length us) (x ∷ [])
 
 -- ---- of a dossier
-
--- its words begin with labels, clauses and m credentials
-pub record Begins (ws : List ℕ) (m : ℕ) : Type 0 where
-  pub labels : List ℕ
-  pub clauses : List Marked
-  pub creds : List Clause
-  pub rest : List ℕ
-  pub words : ws ≡ codeList labels ++ (codeMany codeMarked clauses ++ (codeMany codeClause creds ++ rest))
-  pub count : m ≡ length creds
-
--- "n, then n labels": n is the first word
-abbrev pub FirstWord : List ℕ → ℕ → Type 0
-FirstWord ws n = n ≡ getD ws 0 0
 
 abbrev pub WholeDossier : List ℕ → Type 0
 WholeDossier us = (D : Dossier) × DossierForm D × (us ≡ codeDossier D)
 
-abbrev pub DossierRow : List ℕ → ℕ → ℕ → ℕ → List ℕ → Type 0
-DossierRow ws = FormRow (FirstWord ws) (Begins ws) WholeDossier ws dossier
+abbrev pub DossierRow : List ℕ → ℕ → ℕ → List ℕ → Type 0
+DossierRow = FormRow InDossier WholeDossier
 
 -- ---- of a certificate, for n atoms and m credentials
 
 abbrev pub WholeCertificate : ℕ → ℕ → List ℕ → Type 0
 WholeCertificate n m us = (C : Certificate) × PartsForm n m C × (us ≡ codeCertificate C)
 
-abbrev pub CertificateRow : ℕ → ℕ → List ℕ → ℕ → ℕ → ℕ → List ℕ → Type 0
-CertificateRow n m ws = FormRow (λ k. k ≡ n) (λ k. k ≡ m) (WholeCertificate n m) ws certificate
+pub data CertificateRow (n m : ℕ) (ws : List ℕ) : ℕ → ℕ → List ℕ → Type 0 where
+  -- 10: "certificate above 24,000 words": "empty part at its start"
+  long : 24000 < length ws → CertificateRow n m ws 10 0 []
+  form : {e p : ℕ} {shown : List ℕ} → length ws ≤ 24000 → FormRow (InCertificate n m) (WholeCertificate n m) ws e p shown → CertificateRow n m ws e p shown

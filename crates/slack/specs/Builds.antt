@@ -18,7 +18,7 @@ use Rattle.reply.specs.declared.Reply.{Reply}
 use Rattle.reply.specs.declared.Verdict.the-variants.{Opaque, Detectable as detectable}
 use Rattle.judging.specs.Judge.{judgeOf}
 use Rattle.judging.specs.Answers.{answersOf, tableAfter}
-use Rattle.judging.specs.Demands.{SoundFor}
+use Rattle.judging.specs.Table.{SoundFor}
 use Rattle.judging.specs.declared.Answered.{Answered}
 use Rattle.judging.specs.declared.Answered.the-variants.{Count}
 

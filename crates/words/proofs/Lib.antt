@@ -1,4 +1,3 @@
 pub mod Steps
 pub mod Promise
 pub mod Parts
-pub mod Shown

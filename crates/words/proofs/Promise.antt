@@ -228,7 +228,7 @@ within Any x h at o = refl
 within (Below hi e) x h at o = simp (lt-ltb _ _ h)
 
 -- what holds of a first thing and of those after it holds of all
-all-cons : {A : Type 0} {P : A → Type 0} {x : A} {xs : List A} → P x → ((y : A) → List·Memᴰ y xs → P y) → (y : A) → List·Memᴰ y (x ∷ xs) → P y
+pub all-cons : {A : Type 0} {P : A → Type 0} {x : A} {xs : List A} → P x → ((y : A) → List·Memᴰ y xs → P y) → (y : A) → List·Memᴰ y (x ∷ xs) → P y
 all-cons {P = P} p k y m = ⊎-elim (λ e. subst P (sym e) p) (k y) (List·Memᴰ·cases-cons m)
 
 abbrev RisingIn : Range → ℕ → ℕ → List ℕ → Type 0
@@ -247,6 +247,9 @@ module _ (range : Range) (low : ℕ) (ws : List ℕ) (at : ℕ) where
   in-next : In (length ws) (next range low ws at)
   unfolding next
   in-next = in-word ws at _ (λ x h. in-range range x at h (in-need (leb low x) _ _ h (let i : at + 1 ≤ length ws = omega arith in inGot i)))
+
+pub reads-next : (range : Range) (low : ℕ) → Reads (next range low) (λ x. x ∷ []) (λ x. Within range x × (low ≤ x))
+reads-next range low = record { sound = ok-next range low; exact = λ ws at x rest h f. exact-next range low ws at h (f .0) (f .1); inside = λ ws at h. in-next range low ws at }
 
 ok-rising : (range : Range) (low k : ℕ) (ws : List ℕ) (at : ℕ) → OK (λ xs p. Spans ws at xs p × RisingIn range low k xs) (rising range low k ws at)
 unfolding rising RisingFrom
