@@ -17,9 +17,9 @@ use Rattle.meaning.proofs.Sound.{sameStatement→≡}
 use Rattle.promise.specs.Code.{bit, codeLiteral}
 use Rattle.promise.specs.Form.{ListForm, StatementForm, Apart}
 use Rattle.promise.specs.Line.{dataCount, ruleOf}
-use Rattle.promise.specs.Due.{Word, mark, rule, datum, count, What, one, InAtoms, InCredentials, InLiteral, Ruled, Begun, InLine}
+use Rattle.promise.specs.Due.{Word, rule, datum, count, What, one, InAtoms, InCredentials, InLiteral, Ruled, Begun, InLine}
 use Rattle.promise.specs.Table.{Wrong, Fault}
-use Rattle.promise.proofs.Refused.{Why, why-as, Stops, went, stops, Refuses, refuses-as, refuses-same, refuses-made, Seq, first, second, refuses-then, Only, only, passes, refuses-word}
+use Rattle.promise.proofs.Refused.{Why, because, why-as, refuses-nothing, Stops, went, stops, Refuses, refuses-as, refuses-same, refuses-made, Seq, first, second, refuses-then, Only, only, passes, refuses-word}
 use Rattle.promise.proofs.Due.{refuses-ranged, refuses-count, refuses-atom, refuses-atoms, refuses-credentials, InTimes, behind, refuses-times}
 use Rattle.dossier.proofs.Items.{reads-atoms, reads-creds}
 use Rattle.dossier.proofs.Refusals.{refuses-mark, AfterBit, bit-first, bit-last}
@@ -85,13 +85,14 @@ module _ (n m : ℕ) (before : List Literal) where
 
   refuses-next : Refuses next (InNext n m before)
   unfolding next spoken
-  refuses-next = record { why = λ ws at h. go ws at (reads-literal n m .sound ws at) (refuses-literal n m .why ws at h); so = λ ws at h y. so ws at h (y .due) (y .words) (y .fault) (y .place) (y .count) }
+  refuses-next = record { why = λ ws at h. go ws at (reads-literal n m .sound ws at) (refuses-literal n m .why ws at h); so = so }
     where
       tested : (ws : List ℕ) (at : ℕ) (l : Literal) (p : ℕ) → Spans ws at (codeLiteral l) p → StatementForm n m (l .said) → (b : Bool) → spoken (l .said) before ≡ b → Stops (InNext n m before) ws at (need (not b) 13 at (got l p))
       tested ws at l p s f false e = went
       tested ws at l p s f true e =
           let (x, i, k) = any-at (λ y. sameStatement (y .said) (l .said)) before e in
-          stops {p = at} (record { came = []; rest = codeLiteral l ++ drop p ws; what = What.literal n m before; ahead = 0; shown = bit (l .positive) ∷ []; words = s .words; due = whole; fault = Fault.twice l x (drop p ws) f i (sameStatement→≡ k); place = omega arith; count = refl })
+          let z : at ≡ at + 0 + 0 = omega arith in
+          stops (because [] (codeLiteral l ++ drop p ws) (s .words) whole (Fault.twice l x (drop p ws) f i (sameStatement→≡ k)) z refl)
 
       go : (ws : List ℕ) (at : ℕ) {o : Out Literal} → OK (λ l p. Spans ws at (codeLiteral l) p × StatementForm n m (l .said)) o → Stops (InLiteral n m) ws at o → Stops (InNext n m before) ws at (then o (λ l p. need (not (spoken (l .said) before)) 13 at (got l p)))
       go ws at (fine {v = l} {p = p} s) went = tested ws at l p (s .0) (s .1) (spoken (l .said) before) refl
@@ -104,10 +105,10 @@ module _ (n m : ℕ) (before : List Literal) where
       repeated l x i e true q = ap not q
       repeated l x i e false q = absurd (unspoken q x i e)
 
-      so : (ws : List ℕ) (at : ℕ) → at ≤ length ws → {us rest shown : List ℕ} {what : What} {e p q w : ℕ} → InNext n m before us what → drop at ws ≡ us ++ rest → Fault what rest e q shown → p ≡ at + length us + q → w ≡ length shown → next ws at ≡ bad e p w
-      so ws at h {us} {rest} {shown} {what} {q = q} (part d) v f z c = refused ws at h (record { came = us; rest = rest; what = what; ahead = q; shown = shown; words = v; due = d; fault = f; place = z; count = c })
-      so ws at h whole v Fault.ended z c = refused ws at h (record { came = []; rest = []; what = one mark; ahead = 0; shown = []; words = v; due = InLiteral.sign; fault = Fault.ended; place = z; count = c })
-      so ws at h {p = p} whole v (Fault.twice l x rest f i e) z c =
+      so : (ws : List ℕ) (at : ℕ) → at ≤ length ws → {e p w : ℕ} → Why (InNext n m before) ws at e p w → next ws at ≡ bad e p w
+      so ws at h (because us rest v (part d) f z c) = refused ws at h (because us rest v d f z c)
+      so ws at h (because us rest v whole Fault.ended z c) = refused ws at h (because [] [] v InLiteral.sign Fault.ended z c)
+      so ws at h {p = p} (because us _ v whole (Fault.twice l x rest f i e) z c) =
           let j : at ≡ p = omega (arith, z) in
           ap (λ (o : Out Literal). then o (λ l p. need (not (spoken (l .said) before)) 13 at (got l p))) (reads-literal n m .exact ws at l rest v f)
           ∙ ap (λ (b : Bool). need b 13 at (got l (at + length (codeLiteral l)))) (repeated l x i e (spoken (l .said) before) refl)
@@ -153,10 +154,10 @@ module _ (n m : ℕ) where
 
   refuses-literals : (k : ℕ) (before : List Literal) → Refuses (literals n m k before) (InLiterals n m k before)
   unfolding literals
-  refuses-literals zero before = record { why = λ ws at h. went; so = λ ws at h y. absurd (go (y .due)) }
+  refuses-literals zero before = refuses-nothing [] never
     where
-      go : {us : List ℕ} {what : What} → InLiterals n m 0 before us what → ⊥
-      go (after ls h g i d) = omega arith
+      never : (us : List ℕ) (what : What) → InLiterals n m 0 before us what → ⊥
+      never us what (after ls h g i d) = omega arith
   refuses-literals (suc k) before =
       refuses-same
       (refuses-as (refuses-then {f = λ l q ws p. _} (reads-next n m before) (refuses-next n m before) (λ l q f. refuses-made (refuses-literals k (before ++ (l ∷ []))) (λ ws at ls. l ∷ ls))) (literals-to k before) (literals-from k before))

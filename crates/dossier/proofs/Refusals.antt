@@ -18,7 +18,7 @@ use Rattle.promise.specs.Code.{bit, codeFormula}
 use Rattle.promise.specs.Form.{ListForm, FormulaForm}
 use Rattle.promise.specs.Due.{Word, count, mark, What, one, InAtoms, InCredentials, InClause, InMarked, InEntry}
 use Rattle.promise.specs.Table.{Wrong, Fault, Operand, LengthForm}
-use Rattle.promise.proofs.Refused.{Why, Stops, went, stops, Refuses, refuses-as, refuses-made, Seq, first, second, refuses-then, spans-within, Only, only}
+use Rattle.promise.proofs.Refused.{Why, because, Stops, went, stops, Refuses, refuses-as, refuses-made, Seq, first, second, refuses-then, spans-within, Only, only}
 use Rattle.promise.proofs.Due.{refuses-ranged, refuses-count, refuses-atom, refuses-atoms, refuses-credentials}
 use Rattle.dossier.specs.Read.{clause, marked, byKind, operand, formula, entry}
 use Rattle.dossier.proofs.Coded.{exact-operand, operand-refused}
@@ -101,8 +101,9 @@ module _ (n : ℕ) (ws : List ℕ) (at : ℕ) where
   abbrev W : ℕ → ℕ → ℕ → Type 0
   W = Why (Only (What.formula n)) ws at
 
-  because : {e p ahead : ℕ} {rest shown : List ℕ} → drop at ws ≡ rest → Fault (What.formula n) rest e ahead shown → p ≡ at + ahead → W e p (length shown)
-  because {p = p} {ahead = ahead} {rest} {shown} v f z = record { came = []; rest = rest; what = What.formula n; ahead = ahead; shown = shown; words = v; due = only; fault = f; place = omega (arith, z); count = refl }
+  -- by this row, for what is there from `at` on
+  by : {e p q : ℕ} {shown : List ℕ} (rest : List ℕ) → drop at ws ≡ rest → Fault (What.formula n) rest e q shown → p ≡ at + q → W e p (length shown)
+  by {p = p} {q = q} rest v f z = let k : p ≡ at + 0 + q = omega (arith, z) in because [] rest v only f k refl
 
   -- ---- why it is refused, after its length
 
@@ -137,7 +138,7 @@ module _ (n : ℕ) (ws : List ℕ) (at : ℕ) where
     why-strange : {x e d q : ℕ} (us rest : List ℕ) → drop p ws ≡ us ++ (x ∷ rest) → q ≡ p + length us → q < p + len → Operand n 16 us (suc d) → Strange n x e → W e q 1
     why-strange {x} us rest v z h o y =
         let (fs, (more, (w, k))) = held-word us x rest v (omega (arith, z)) in
-        because (whole (us ++ (x ∷ fs)) more w k) (row fs more (lasts (us ++ (x ∷ fs)) k) y) (omega (arith, z, s .next))
+        by _ (whole (us ++ (x ∷ fs)) more w k) (row fs more (lasts (us ++ (x ∷ fs)) k) y) (omega (arith, z, s .next))
       where
         row : {e : ℕ} (fs more : List ℕ) → LengthForm (us ++ (x ∷ fs)) → Strange n x e → Fault (What.formula n) (codeList (us ++ (x ∷ fs)) ++ more) e (1 + length us) (x ∷ [])
         row fs more l (high a b) = Fault.high us fs more l o a (omega arith)
@@ -146,13 +147,13 @@ module _ (n : ℕ) (ws : List ℕ) (at : ℕ) where
     why-misfit : {d : ℕ} (us rest : List ℕ) → drop p ws ≡ us ++ rest → p + length us ≤ p + len → Operand n 16 us d → (d ≡ 0) ⊎ (p + length us ≡ p + len) → W 8 at 1
     why-misfit us rest v h o (inl z) =
         let (fs, (more, (w, k))) = held us rest v (omega arith) in
-        because (whole (us ++ fs) more w k) (Fault.tooDeep us fs more (lasts (us ++ fs) k) (subst (λ (i : ℕ). Operand n 16 us i) z o)) (omega arith)
-    why-misfit us rest v h o (inr z) = let k : length us ≡ len = omega (arith, z) in because (whole us rest v k) (Fault.needs us rest (lasts us k) o) (omega arith)
+        by _ (whole (us ++ fs) more w k) (Fault.tooDeep us fs more (lasts (us ++ fs) k) (subst (λ (i : ℕ). Operand n 16 us i) z o)) (omega arith)
+    why-misfit us rest v h o (inr z) = let k : length us ≡ len = omega (arith, z) in by _ (whole us rest v k) (Fault.needs us rest (lasts us k) o) (omega arith)
 
     why-before : (f : Formula) (x : ℕ) (rest : List ℕ) → drop p ws ≡ codeFormula f ++ (x ∷ rest) → length (codeFormula f) < len → FormulaForm n 16 f → W 8 at 1
     why-before f x rest v h g =
         let (fs, (more, (w, k))) = held-word (codeFormula f) x rest v h in
-        because (whole (codeFormula f ++ (x ∷ fs)) more w k) (Fault.complete f x fs more (lasts (codeFormula f ++ (x ∷ fs)) k) g) (omega arith)
+        by _ (whole (codeFormula f ++ (x ∷ fs)) more w k) (Fault.complete f x fs more (lasts (codeFormula f ++ (x ∷ fs)) k) g) (omega arith)
 
     closes : (b : Bool) (f : Formula) (q : ℕ) → eqb q (p + len) ≡ b → Spans ws p (codeFormula f) q → FormulaForm n 16 f → q ≤ p + len → Stops (Only (What.formula n)) ws at (need b 8 at (got f q))
     closes true f q e t g h = went
@@ -171,19 +172,19 @@ module _ (n : ℕ) (ws : List ℕ) (at : ℕ) where
   why-present {len} {p} s a b false e =
       let i : length ws < p + len = leb-false _ _ e in
       let j : p ≤ length ws = spans-within ws s (omega (arith, lies ws at (s .words) .here)) in
-      stops {p = length ws} (because (s .words) (Fault.fewRemain a (omega arith) (omega (arith, length-drop p ws))) (omega (arith, length-drop p ws, s .next)))
+      stops {p = length ws} (by (len ∷ drop p ws) (s .words) (Fault.fewRemain a (omega arith) (omega (arith, length-drop p ws))) (omega (arith, length-drop p ws, s .next)))
 
   of-length : {rest : List ℕ} {e q : ℕ} {us : List ℕ} → Fault (one (count 1 64)) rest e q us → Fault (What.formula n) rest e q us
   of-length Fault.ended = Fault.ended
   of-length (Fault.word f) = Fault.noLength f
 
-  why-length : {us rest shown : List ℕ} {what : What} {e p q w : ℕ} → Only (one (count 1 64)) us what → drop at ws ≡ us ++ rest → Fault what rest e q shown → p ≡ at + length us + q → w ≡ length shown → W e p w
-  why-length {rest = rest} {shown} {q = q} only v f z c = record { came = []; rest = rest; what = What.formula n; ahead = q; shown = shown; words = v; due = only; fault = of-length f; place = z; count = c }
+  why-length : {e p w : ℕ} → Why (Only (one (count 1 64))) ws at e p w → W e p w
+  why-length (because us rest v only f z c) = because [] rest v only (of-length f) z c
 
   why-formula : {o : Out ℕ} → OK (λ len p. Spans ws at (len ∷ []) p × ((1 ≤ len) × (len < 65))) o → Stops (Only (one (count 1 64))) ws at o
       → Stops (Only (What.formula n)) ws at (then o (λ len p. present (leb (p + len) (length ws)) ws (tail n ws at len p)))
   why-formula (fine {v = len} {p = p} s) went = why-present (s .0) (s .1 .0) (s .1 .1) (leb (p + len) (length ws)) refl
-  why-formula none (stops y) = stops (why-length (y .due) (y .words) (y .fault) (y .place) (y .count))
+  why-formula none (stops y) = stops (why-length y)
 
   -- ---- and that it is
 
@@ -237,29 +238,28 @@ module _ (n : ℕ) (ws : List ℕ) (at : ℕ) where
     unfolding formula
     so-length y = ap (λ (o : Out ℕ). then o (λ len q. present (leb (q + len) (length ws)) ws (tail n ws at len q))) (refuses-count 1 64 .so ws at h y)
 
-    refused-at : {e p w q : ℕ} {rest shown : List ℕ} → drop at ws ≡ rest → Fault (What.formula n) rest e q shown → p ≡ at + q → w ≡ length shown → formula n ws at ≡ bad e p w
-    refused-at v Fault.ended z c = so-length (record { came = []; rest = []; what = one (count 1 64); ahead = 0; shown = []; words = v; due = only; fault = Fault.ended; place = omega (arith, z); count = c })
-    refused-at v (Fault.noLength {x = x} {rest = rest} f) z c =
-        so-length (record { came = []; rest = x ∷ rest; what = one (count 1 64); ahead = 0; shown = x ∷ []; words = v; due = only; fault = Fault.word f; place = omega (arith, z); count = c })
-    refused-at {p = p} v (Fault.fewRemain {len = len} {fs = fs} a b i) z c =
+    refused-at : {e p w q : ℕ} (rest : List ℕ) {shown : List ℕ} → drop at ws ≡ rest → Fault (What.formula n) rest e q shown → p ≡ at + 0 + q → w ≡ length shown → formula n ws at ≡ bad e p w
+    refused-at rest v Fault.ended z c = so-length (because [] [] v only Fault.ended z c)
+    refused-at rest v (Fault.noLength f) z c = so-length (because [] rest v only (Fault.word f) z c)
+    refused-at {p = p} rest v (Fault.fewRemain {len = len} {fs = fs} a b i) z c =
         let y = lies ws at v in
         let j : length ws ≡ p = omega (arith, z, length-drop (at + 1) ws, ap length (y .after), y .here) in
         so-few len fs v a b i ∙ ap₂ (λ (i j : ℕ). bad 1 i j) j (sym c)
-    refused-at {p = p} v (Fault.high {x = x} us fs more l o a b) z c = let j : at + 1 + length us ≡ p = omega (arith, z) in so-strange us x fs more v l o (high a (omega arith)) ∙ ap₂ (λ (i j : ℕ). bad 3 i j) j (sym c)
-    refused-at {p = p} v (Fault.unknown {x = x} us fs more l o a) z c = let j : at + 1 + length us ≡ p = omega (arith, z) in so-strange us x fs more v l o (unknown a) ∙ ap₂ (λ (i j : ℕ). bad 7 i j) j (sym c)
-    refused-at {p = p} v (Fault.tooDeep us fs more l o) z c = let j : at ≡ p = omega (arith, z) in led us fs more v l o (operand-deep n at (at + 1 + length (us ++ fs)) ws (at + 1 + length us)) ∙ ap₂ (λ (i j : ℕ). bad 8 i j) j (sym c)
-    refused-at {p = p} v (Fault.needs fs more l o) z c = let j : at ≡ p = omega (arith, z) in so-past fs more v l o ∙ ap₂ (λ (i j : ℕ). bad 8 i j) j (sym c)
-    refused-at {p = p} v (Fault.complete f x fs more l g) z c = let j : at ≡ p = omega (arith, z) in so-before f x fs more v l g ∙ ap₂ (λ (i j : ℕ). bad 8 i j) j (sym c)
+    refused-at {p = p} rest v (Fault.high {x = x} us fs more l o a b) z c = let j : at + 1 + length us ≡ p = omega (arith, z) in so-strange us x fs more v l o (high a (omega arith)) ∙ ap₂ (λ (i j : ℕ). bad 3 i j) j (sym c)
+    refused-at {p = p} rest v (Fault.unknown {x = x} us fs more l o a) z c = let j : at + 1 + length us ≡ p = omega (arith, z) in so-strange us x fs more v l o (unknown a) ∙ ap₂ (λ (i j : ℕ). bad 7 i j) j (sym c)
+    refused-at {p = p} rest v (Fault.tooDeep us fs more l o) z c = let j : at ≡ p = omega (arith, z) in led us fs more v l o (operand-deep n at (at + 1 + length (us ++ fs)) ws (at + 1 + length us)) ∙ ap₂ (λ (i j : ℕ). bad 8 i j) j (sym c)
+    refused-at {p = p} rest v (Fault.needs fs more l o) z c = let j : at ≡ p = omega (arith, z) in so-past fs more v l o ∙ ap₂ (λ (i j : ℕ). bad 8 i j) j (sym c)
+    refused-at {p = p} rest v (Fault.complete f x fs more l g) z c = let j : at ≡ p = omega (arith, z) in so-before f x fs more v l g ∙ ap₂ (λ (i j : ℕ). bad 8 i j) j (sym c)
 
-    so-formula : {us rest shown : List ℕ} {what : What} {e p q w : ℕ} → Only (What.formula n) us what → drop at ws ≡ us ++ rest → Fault what rest e q shown → p ≡ at + length us + q → w ≡ length shown → formula n ws at ≡ bad e p w
-    so-formula only v f z c = refused-at v f (omega (arith, z)) c
+    so-formula : {e p w : ℕ} → W e p w → formula n ws at ≡ bad e p w
+    so-formula (because us rest v only f z c) = refused-at rest v f z c
 
 pub refuses-formula : (n : ℕ) → n ≤ 256 → Refuses (formula n) (Only (What.formula n))
 unfolding formula
 refuses-formula n small =
     record {
       why = λ ws at h. why-formula n ws at (reads-ranged 1 65 2 .sound ws at) (refuses-count 1 64 .why ws at h);
-      so = λ ws at h y. so-formula n ws at small h (y .due) (y .words) (y .fault) (y .place) (y .count);
+      so = λ ws at h. so-formula n ws at small h;
     }
 
 -- ---- entries

@@ -16,7 +16,7 @@ use Rattle.words.proofs.Parts.{reads-after}
 use Rattle.promise.specs.Code.{codeMarked, codeClause, codeEntry}
 use Rattle.promise.specs.Due.{What, one, count, InSection, SectionForm, InEntry, InLabels, LabelsForm, InClauses, ClausesForm, InCreds, CredsForm, InProbes, ProbesForm, InSecret, InDossier}
 use Rattle.promise.specs.Table.{FormRow}
-use Rattle.promise.proofs.Refused.{Why, Stops, went, stops, Refuses, refuses-as, refuses-made, refuses-after, Seq, first, second, refuses-then, Only, only}
+use Rattle.promise.proofs.Refused.{Why, because, Stops, went, stops, Refuses, refuses-as, refuses-made, refuses-after, Seq, first, second, refuses-then, Only, only}
 use Rattle.promise.proofs.Due.{refuses-count, refuses-labels, refuses-section}
 use Rattle.dossier.specs.Read.{secret, ended, sections}
 use Rattle.dossier.proofs.Items.{reads-clause, reads-marked, reads-entry}
@@ -126,7 +126,9 @@ module _ {A : Type 0} {r : List ℕ → ℕ → Out A} {code : A → List ℕ} {
       (getD ws p 0 ∷ [], subst₂ (λ (i j : ℕ). Row i j (getD ws p 0 ∷ [])) a b (FormRow.leftOver (code x) (getD ws p 0) (drop (p + 1) ws) v (x, f, refl)), c)
 
   due-row : {e p w : ℕ} → Why Due ws 0 e p w → (us : List ℕ) × Row e p us × (w ≡ length us)
-  due-row {e} {p} y = let z : length (y .came) + y .ahead ≡ p = omega (arith, y .place) in (y .shown, subst (λ (i : ℕ). Row e i (y .shown)) z (FormRow.due (y .came) (y .rest) (y .what) (y .words) (y .due) (y .fault)), y .count)
+  due-row {e} {p} (because us rest {what = what} {q = q} {shown = shown} v d f z c) =
+      let k : length us + q ≡ p = omega (arith, z) in
+      (shown, subst (λ (i : ℕ). Row e i shown) k (FormRow.due us rest what v d f), c)
 
   -- a refusal is that of a row
   pub refused-row : {e p w : ℕ} → then (r ws 0) (λ x p. ended ws x p) ≡ bad e p w → (us : List ℕ) × Row e p us × (w ≡ length us)
@@ -145,8 +147,9 @@ module _ {A : Type 0} {r : List ℕ → ℕ → Out A} {code : A → List ℕ} {
   -- and every row refuses
   pub row-refused : {e p : ℕ} {us : List ℕ} → Row e p us → then (r ws 0) (λ x p. ended ws x p) ≡ bad e p (length us)
   unfolding ended
-  row-refused (FormRow.due came rest what {q = q} {shown = shown} v d f) =
-      ap (λ (o : Out A). then o (λ x p. ended ws x p)) (S .so ws 0 (omega arith) (record { came = came; rest = rest; what = what; ahead = q; shown = shown; words = v; due = d; fault = f; place = omega arith; count = refl }))
+  row-refused (FormRow.due us rest what {q = q} v d f) =
+      let z : length us + q ≡ 0 + length us + q = omega arith in
+      ap (λ (o : Out A). then o (λ x p. ended ws x p)) (S .so ws 0 (omega arith) (because us rest v d f z refl))
   row-refused (FormRow.leftOver us y rest v (x, f, z)) =
       let k : ws ≡ code x ++ (y ∷ rest) = v ∙ ap (λ (l : List ℕ). l ++ (y ∷ rest)) z in
       let i : 0 + length (code x) < length ws = omega (arith, ap length k, length-append (code x) (y ∷ rest)) in

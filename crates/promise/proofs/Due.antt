@@ -17,7 +17,7 @@ use Rattle.words.proofs.Promise.{Reads, reads-ranged, reads-next, Within, all-c
 use Rattle.meaning.specs.Tests.{_∈_}
 use Rattle.promise.specs.Due.{Word, What, one, count, label, atom, credential, above, InList, InSection}
 use Rattle.promise.specs.Table.{Wrong}
-use Rattle.promise.proofs.Refused.{Refuses, went, refuses-as, refuses-made, Seq, first, second, refuses-then, Only, only, Tested, passes, fails, refuses-word}
+use Rattle.promise.proofs.Refused.{Refuses, refuses-nothing, refuses-as, refuses-made, Seq, first, second, refuses-then, Only, only, Tested, passes, fails, refuses-word}
 
 -- ---- a word in its range
 
@@ -140,10 +140,10 @@ module _ (range : Range) (number : ℕ → Word) (tested : Numbers range number)
 
   refuses-rising : (low k : ℕ) → Refuses (rising range low k) (Rising low k)
   unfolding rising
-  refuses-rising low zero = record { why = λ ws at h. went; so = λ ws at h y. absurd (go (y .due)) }
+  refuses-rising low zero = refuses-nothing [] none
     where
-      go : {us : List ℕ} {what : What} → Rising low 0 us what → ⊥
-      go (InRising.after xs l r g) = omega arith
+      none : (us : List ℕ) (what : What) → Rising low 0 us what → ⊥
+      none us what (InRising.after xs l r g) = omega arith
   refuses-rising low (suc k) =
       refuses-as (refuses-then {f = λ x q ws p. _} (reads-next range low) (refuses-next low) (λ x q f. refuses-made (refuses-rising (x + 1) k) (λ ws at xs. x ∷ xs))) (rising-to low k) (rising-from low k)
 
@@ -190,10 +190,10 @@ module _ {A : Type 0} {r : List ℕ → ℕ → Out A} {code : A → List ℕ} {
 
   pub refuses-times : (k : ℕ) → Refuses (times k r) (Times k)
   unfolding times
-  refuses-times zero = record { why = λ ws at h. went; so = λ ws at h y. absurd (go (y .due)) }
+  refuses-times zero = refuses-nothing [] none
     where
-      go : {us : List ℕ} {what : What} → Times 0 us what → ⊥
-      go (InTimes.behind xs l g d) = omega arith
+      none : (us : List ℕ) (what : What) → Times 0 us what → ⊥
+      none us what (InTimes.behind xs l g d) = omega arith
   refuses-times (suc k) = refuses-as (refuses-then {f = λ x q ws p. _} R S (λ x q f. refuses-made (refuses-times k) (λ ws at xs. x ∷ xs))) (times-to k) (times-from k)
 
   pub refuses-section : (lo hi : ℕ) → Refuses (section lo (suc hi) r) (InSection lo hi code Form In)

@@ -12,38 +12,17 @@ use Rattle.words.proofs.Promise.{OK, fine, none, Spans, spans-word, lies, past,
 use Rattle.promise.specs.Due.{Word, What, one}
 use Rattle.promise.specs.Table.{Wrong, Fault}
 
--- why the words from `at` on are refused with number e at place p, showing w words: by what is due, and the row
-pub record Why (Due : List ℕ → What → Type 0) (ws : List ℕ) (at e p w : ℕ) : Type 0 where
-  pub came : List ℕ
-  pub rest : List ℕ
-  pub what : What
-  pub ahead : ℕ
-  pub shown : List ℕ
-  pub words : drop at ws ≡ came ++ rest
-  pub due : Due came what
-  pub fault : Fault what rest e ahead shown
-  pub place : p ≡ at + length came + ahead
-  pub count : w ≡ length shown
+-- why the words from `at` on are refused with number e at place p, showing w words: by what is due once the words us have come, and the row
+pub data Why (Due : List ℕ → What → Type 0) (ws : List ℕ) (at e p w : ℕ) : Type 0 where
+  because : (us rest : List ℕ) {what : What} {q : ℕ} {shown : List ℕ} → drop at ws ≡ us ++ rest → Due us what → Fault what rest e q shown → p ≡ at + length us + q → w ≡ length shown → Why Due ws at e p w
 
 -- what is due once the words `code` have come
 pub why-further : {D E : List ℕ → What → Type 0} {ws : List ℕ} {at q e p w : ℕ} {code : List ℕ} → Spans ws at code q → ((us : List ℕ) (what : What) → D us what → E (code ++ us) what) → Why D ws q e p w → Why E ws at e p w
-why-further {ws = ws} {code = code} s f y =
-    record {
-      came = code ++ y .came;
-      rest = y .rest;
-      what = y .what;
-      ahead = y .ahead;
-      shown = y .shown;
-      words = s .words ∙ ap (λ (l : List ℕ). code ++ l) (y .words) ∙ sym (append-assoc code (y .came) (y .rest));
-      due = f (y .came) (y .what) (y .due);
-      fault = y .fault;
-      place = omega (arith, y .place, s .next, length-append code (y .came));
-      count = y .count;
-    }
+why-further {code = code} s f (because us rest v d g z c) =
+    because (code ++ us) rest (s .words ∙ ap (λ (l : List ℕ). code ++ l) v ∙ sym (append-assoc code us rest)) (f us _ d) g (omega (arith, z, s .next, length-append code us)) c
 
 pub why-as : {D E : List ℕ → What → Type 0} {ws : List ℕ} {at e p w : ℕ} → ((us : List ℕ) (what : What) → D us what → E us what) → Why D ws at e p w → Why E ws at e p w
-why-as f y =
-    record { came = y .came; rest = y .rest; what = y .what; ahead = y .ahead; shown = y .shown; words = y .words; due = f (y .came) (y .what) (y .due); fault = y .fault; place = y .place; count = y .count }
+why-as f (because us rest v d g z c) = because us rest v (f us _ d) g z c
 
 -- what was read, or why not
 pub data Stops (Due : List ℕ → What → Type 0) (ws : List ℕ) (at : ℕ) {A : Type 0} : Out A → Type 0 where
@@ -81,13 +60,20 @@ module _ {A : Type 0} {r : List ℕ → ℕ → Out A} {D : List ℕ → What �
     where
       go : (ws : List ℕ) (p : ℕ) {o : Out A} → Stops D (drop p ws) 0 o → Stops D ws p (moved p o)
       go ws p went = went
-      go ws p (stops {p = q} y) = stops {p = p + q} (record { came = y .came; rest = y .rest; what = y .what; ahead = y .ahead; shown = y .shown; words = y .words; due = y .due; fault = y .fault; place = omega (arith, y .place); count = y .count })
+      go ws p (stops {p = i} (because us rest {q = q} v d f z c)) = let k : p + i ≡ p + length us + q = omega (arith, z) in stops (because us rest v d f k c)
 
       so : (ws : List ℕ) (at : ℕ) → at ≤ length ws → {e p w : ℕ} → Why D ws at e p w → after r ws at ≡ bad e p w
-      so ws at h {e} {p} {w} y =
-          let z : at + (length (y .came) + y .ahead) ≡ p = omega (arith, y .place) in
-          ap (moved at) (R .so (drop at ws) 0 (omega arith) {e = e} {p = length (y .came) + y .ahead} {w = w} (record { came = y .came; rest = y .rest; what = y .what; ahead = y .ahead; shown = y .shown; words = y .words; due = y .due; fault = y .fault; place = omega arith; count = y .count }))
-          ∙ ap (λ (i : ℕ). bad e i w) z
+      so ws at h {e} {p} {w} (because us rest {q = q} v d f z c) =
+          let k : at + (length us + q) ≡ p = omega (arith, z) in
+          let j : length us + q ≡ 0 + length us + q = omega arith in
+          ap (moved at) (R .so (drop at ws) 0 (omega arith) (because us rest v d f j c)) ∙ ap (λ (i : ℕ). bad e i w) k
+
+-- nothing is due, and nothing is read
+pub refuses-nothing : {A : Type 0} {D : List ℕ → What → Type 0} (v : A) → ((us : List ℕ) (what : What) → D us what → ⊥) → Refuses (λ ws at. got v at) D
+refuses-nothing {A} {D} v never = record { why = λ ws at h. went; so = so }
+  where
+    so : (ws : List ℕ) (at : ℕ) → at ≤ length ws → {e p w : ℕ} → Why D ws at e p w → got v at ≡ bad e p w
+    so ws at h (because us rest v d f z c) = absurd (never us _ d)
 
 -- ---- one after the other
 
@@ -117,17 +103,14 @@ module _ {A B : Type 0} {r : List ℕ → ℕ → Out A} {code : A → List ℕ}
       whole ws at h none (stops y) = stops (why-as (λ us what d. first d) y)
 
       so : (ws : List ℕ) (at : ℕ) → at ≤ length ws → {e p w : ℕ} → Why Both ws at e p w → then (r ws at) (λ x q. f x q ws q) ≡ bad e p w
-      so ws at h {e} {p} {w} y = go (y .came) (y .due) (y .words) (y .place)
-        where
-          go : (us : List ℕ) → Both us (y .what) → drop at ws ≡ us ++ y .rest → p ≡ at + length us + y .ahead → then (r ws at) (λ x q. f x q ws q) ≡ bad e p w
-          go us (first d) v z = ap (λ (o : Out A). then o (λ x q. f x q ws q)) (S .so ws at h (record { came = us; rest = y .rest; what = y .what; ahead = y .ahead; shown = y .shown; words = v; due = d; fault = y .fault; place = z; count = y .count }))
-          go us (second x {us = vs} g d) v z =
-              let k : drop at ws ≡ code x ++ (vs ++ y .rest) = v ∙ append-assoc (code x) vs (y .rest) in
-              let q : ℕ = at + length (code x) in
-              let i : drop q ws ≡ vs ++ y .rest = past ws at (code x) k in
-              let j : q ≤ length ws = spans-within ws {code = code x} (record { words = k ∙ ap (λ (l : List ℕ). code x ++ l) (sym i); next = refl }) h in
-              ap (λ (o : Out A). then o (λ x q. f x q ws q)) (R .exact ws at x (vs ++ y .rest) k g)
-              ∙ T x q g .so ws q j (record { came = vs; rest = y .rest; what = y .what; ahead = y .ahead; shown = y .shown; words = i; due = d; fault = y .fault; place = omega (arith, z, length-append (code x) vs); count = y .count })
+      so ws at h (because us rest v (first d) y z c) = ap (λ (o : Out A). then o (λ x q. f x q ws q)) (S .so ws at h (because us rest v d y z c))
+      so ws at h {p = p} (because us rest {q = ahead} v (second x {us = vs} g d) y z c) =
+          let k : drop at ws ≡ code x ++ (vs ++ rest) = v ∙ append-assoc (code x) vs rest in
+          let q : ℕ = at + length (code x) in
+          let i : drop q ws ≡ vs ++ rest = past ws at (code x) k in
+          let j : q ≤ length ws = spans-within ws {code = code x} (record { words = k ∙ ap (λ (l : List ℕ). code x ++ l) (sym i); next = refl }) h in
+          let t : p ≡ q + length vs + ahead = omega (arith, z, length-append (code x) vs) in
+          ap (λ (o : Out A). then o (λ x q. f x q ws q)) (R .exact ws at x (vs ++ rest) k g) ∙ T x q g .so ws q j (because vs rest i d y t c)
 
 -- ---- one word
 
@@ -148,17 +131,18 @@ word-row (Fault.word f) = (f, refl, refl)
 
 module _ (due : Word) {A : Type 0} (g : ℕ → ℕ → ℕ → Out A) (tested : (x at p : ℕ) → Tested due x at (g x at p)) where
   pub refuses-word : Refuses (λ ws at. then (word ws at) (λ x p. g x at p)) (Only (one due))
-  refuses-word = record { why = λ ws at h. there ws at h (ltb at (length ws)) refl; so = λ ws at h y. so ws at h (y .due) (y .rest) (y .words) (y .fault) (y .place) (y .count) }
+  refuses-word = record { why = λ ws at h. there ws at h (ltb at (length ws)) refl; so = so }
     where
       stopped : (ws : List ℕ) (at : ℕ) {x : ℕ} → drop at ws ≡ x ∷ drop (at + 1) ws → {o : Out A} → Tested due x at o → Stops (Only (one due)) ws at o
       stopped ws at v (passes f) = went
-      stopped ws at {x} v (fails f k) = stops {p = at} (record { came = []; rest = x ∷ drop (at + 1) ws; what = one due; ahead = 0; shown = x ∷ []; words = v; due = only; fault = Fault.word f; place = omega arith; count = refl })
+      stopped ws at {x} v (fails f k) = let z : at ≡ at + 0 + 0 = omega arith in stops (because [] (x ∷ drop (at + 1) ws) v only (Fault.word f) z refl)
 
       there : (ws : List ℕ) (at : ℕ) → at ≤ length ws → (b : Bool) → ltb at (length ws) ≡ b → Stops (Only (one due)) ws at (then (present b ws (got (getD ws at 0) (at + 1))) (λ x p. g x at p))
       there ws at h true b = stopped ws at (spans-word ws at (ltb-true _ _ b) .words) (tested (getD ws at 0) at (at + 1))
       there ws at h false b =
           let i : length ws ≤ at = ltb-false _ _ b in
-          stops {p = length ws} (record { came = []; rest = []; what = one due; ahead = 0; shown = []; words = drop-of-length-le ws i; due = only; fault = Fault.ended; place = omega arith; count = refl })
+          let z : length ws ≡ at + 0 + 0 = omega arith in
+          stops (because [] [] (drop-of-length-le ws i) only Fault.ended z refl)
 
       judged : {x e at p w q : ℕ} {shown : List ℕ} → Wrong due x e × (q ≡ 0) × (shown ≡ x ∷ []) → p ≡ at + 0 + q → w ≡ length shown → {o : Out A} → Tested due x at o → o ≡ bad e p w
       judged {e = e} f z c (passes k) = absurd (k e (f .0))
@@ -168,11 +152,11 @@ module _ (due : Word) {A : Type 0} (g : ℕ → ℕ → ℕ → Out A) (tested :
           let j : w ≡ 1 = c ∙ ap length (f .2) in
           rw (a, i, j) refl
 
-      so : (ws : List ℕ) (at : ℕ) → at ≤ length ws → {us shown : List ℕ} {what : What} {e p q w : ℕ} → Only (one due) us what → (rest : List ℕ) → drop at ws ≡ us ++ rest → Fault what rest e q shown → p ≡ at + length us + q → w ≡ length shown → then (word ws at) (λ x p. g x at p) ≡ bad e p w
-      so ws at h {p = p} {w = w} only [] v f z c =
+      so : (ws : List ℕ) (at : ℕ) → at ≤ length ws → {e p w : ℕ} → Why (Only (one due)) ws at e p w → then (word ws at) (λ x p. g x at p) ≡ bad e p w
+      so ws at h {p = p} {w = w} (because us [] v only f z c) =
           let (a, b, d) = fault-none f in
           let i : length ws ≤ at = omega (arith, ap length v, length-drop at ws) in
           let j : p ≡ length ws = omega (arith, z, b) in
           let k : w ≡ 0 = c ∙ ap length d in
           rw (a, j, k) (simp (le-ltb _ _ i))
-      so ws at h only (x ∷ rest) v f z c = let l = lies ws at v in simp (lt-ltb _ _ (l .here), l .this) (judged (word-row f) z c (tested x at (at + 1)))
+      so ws at h (because us (x ∷ rest) v only f z c) = let l = lies ws at v in simp (lt-ltb _ _ (l .here), l .this) (judged (word-row f) z c (tested x at (at + 1)))
