@@ -161,7 +161,7 @@ reads-line n m = record { sound = sound; exact = exact; inside = inside }
         ok-made _ (reads-literals n m k .sound ws u) (λ ls z y.
         let c : Spans ws q (k ∷ codeAll codeLiteral ls) z = spans-join (v .0) (y .0) in (
           code ws at z r p d (drop q ws) (codeMany codeLiteral ls) (s .1 .0) (s .1 .1) (t .1) (t .0 .words) (spans-join (s .0) (spans-join (t .0) (rw (← y .1 .0) at c))),
-          record { few = omega (arith, y .1 .0, v .1 .1); each = y .1 .1 .0; apart = y .1 .1 .1 },
+          record { few = omega (arith, y .1 .0, v .1 .1); literals = record { each = y .1 .1 .0; apart = y .1 .1 .1 } },
         )))))
 
     exact : (ws : List ℕ) (at : ℕ) (l : Line) (rest : List ℕ) → drop at ws ≡ codeLine l ++ rest → LineForm n m l → line n m ws at ≡ got l (at + length (codeLine l))
@@ -175,7 +175,7 @@ reads-line n m = record { sound = sound; exact = exact; inside = inside }
         let q : ℕ = at + 1 + length (dataOf r) in
         let v : drop q ws ≡ tail ++ rest = past ws (at + 1) (dataOf r) u in
         let k = reads-ranged 0 9 2 .exact ws q (length ls) (codeAll codeLiteral ls ++ rest) v (omega arith, omega (arith, f .few)) in
-        let x = reads-literals n m (length ls) .exact ws (q + 1) ls rest (next-words ws q v) (refl, (f .each, f .apart)) in
+        let x = reads-literals n m (length ls) .exact ws (q + 1) ls rest (next-words ws q v) (refl, (f .literals .each, f .literals .apart)) in
         let y : ruleOf ws (numberOf r) (at + 1) ≡ r = ap (λ i. ruleOf ws i (at + 1)) (sym (first-word ws at h)) ∙ ap (λ (j : Line). j .rule) (lines-seen n m ws at l rest h f .that) in
         let z : q + 1 + length (codeAll codeLiteral ls) ≡ at + length (codeLine l) = omega (arith, length-append (dataOf r) tail) in
         simp (a, d, k, x, y) (ap (got l) z)

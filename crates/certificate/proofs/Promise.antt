@@ -16,8 +16,8 @@ use Rattle.meaning.specs.Tests.{_is_, choose}
 use Rattle.meaning.specs.Policy.{Policy}
 use Rattle.meaning.specs.Papers.{Line, Certificate, witness, proof}
 use Rattle.promise.specs.Code.{codeClause, codeLine, codeCertificate}
-use Rattle.promise.specs.Form.{ClauseForm, LineForm, PartsForm, CertificateForm}
-use Rattle.promise.specs.Due.{What, one, kind, InSection, SectionForm, InClause, InLine, InCertificate}
+use Rattle.promise.specs.Form.{ClauseForm, SectionForm, LineForm, PartsForm, CertificateForm}
+use Rattle.promise.specs.Due.{What, one, kind, InSection, InClause, InLine, InCertificate}
 use Rattle.promise.specs.Table.{Wrong, CertificateRow, long, form}
 use Rattle.promise.proofs.Refused.{Refuses, refuses-as, refuses-made, Seq, first, second, refuses-then, Only, only}
 use Rattle.promise.proofs.Due.{refuses-ranged}
@@ -97,7 +97,7 @@ module _ (n m : ℕ) where
       same (proof ls) f = other (f .0)
 
       formed : (C : Certificate) → ((kindOf C ≡ 1) × SectionForm 0 128 (ClauseForm n) (clausesOf C)) ↔ OfKind 1 C
-      formed (witness W) = (λ f. ((f .0, tt), (f .1 .most, f .1 .each)), λ f. (f .0 .0, record { least = omega arith; most = f .1 .0; each = f .1 .1 }))
+      formed (witness W) = (λ f. ((f .0, tt), f .1), λ f. (f .0 .0, f .1))
       formed (proof ls) = (λ f. other (f .0), λ f. other (f .0 .0))
 
   reads-proof : Reads (λ ws p. made proof (after (section 1 1025 (line n m)) ws p)) afterKind (OfKind 2)
@@ -117,7 +117,7 @@ module _ (n m : ℕ) where
 
       formed : (C : Certificate) → ((kindOf C ≡ 2) × SectionForm 1 1024 (LineForm n m) (linesOf C)) ↔ OfKind 2 C
       formed (witness W) = (λ f. other (f .0), λ f. other (f .0 .0))
-      formed (proof ls) = (λ f. ((f .0, tt), (f .1 .least, f .1 .most, f .1 .each)), λ f. (f .0 .0, record { least = f .1 .0; most = f .1 .1; each = f .1 .2 }))
+      formed (proof ls) = (λ f. ((f .0, tt), f .1), λ f. (f .0 .0, f .1))
 
   reads-kind : (x : ℕ) → (1 ≤ x) × (x < 3) → Reads (byKind x) afterKind (OfKind x)
   unfolding byKind choose _is_
@@ -206,16 +206,18 @@ module _ (n m k : ℕ) (h : m ≤ k) where
   line-more l f =
       record {
         few = f .few;
-        each = λ x i.
-            let s = f .each x i in
-            record { creds = record { few = s .creds .few; rising = s .creds .rising; below = λ c j. omega (arith, s .creds .below c j) }; atoms = s .atoms; atom = s .atom };
-        apart = f .apart;
+        literals = record {
+          each = λ x i.
+              let s = f .literals .each x i in
+              record { creds = record { few = s .creds .few; rising = s .creds .rising; below = λ c j. omega (arith, s .creds .below c j) }; atoms = s .atoms; atom = s .atom };
+          apart = f .literals .apart;
+        };
       }
 
   parts-more : (C : Certificate) → PartsForm n m C → PartsForm n k C
   unfolding PartsForm
   parts-more (witness W) f = f
-  parts-more (proof ls) f = (f .0, f .1, λ l i. line-more l (f .2 l i))
+  parts-more (proof ls) f = record { least = f .least; most = f .most; each = λ l i. line-more l (f .each l i) }
 
 pub certificateMore : CertificateMore
 unfolding PartsForm

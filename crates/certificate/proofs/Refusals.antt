@@ -205,7 +205,7 @@ module _ (n m : ℕ) where
   ruled f g = record { least = f .0; most = omega (arith, f .1); all = g }
 
   begun : {k : ℕ} {ls : List Literal} → (0 ≤ k) × (k < 9) → length ls < k → ((x : Literal) → x ∈ ls → StatementForm n m (x .said)) → Fresh [] ls → Begun n m k ls
-  begun h l g i = record { few = omega (arith, h .1); more = l; each = g; apart = i .1 }
+  begun h l g i = record { few = omega (arith, h .1); more = l; sound = record { each = g; apart = i .1 } }
 
   line-to : (us : List ℕ) (what : What) → FromRule us what → InLine n m us what
   line-to us what (first only) = InLine.rule
@@ -221,9 +221,9 @@ module _ (n m : ℕ) where
   line-from us what (InLine.count r ds f) = subst (λ (l : List ℕ). FromRule (r ∷ l) what) (append-nil ds) (second r (f .least, omega (arith, f .most)) (second ds (f .all) (first only)))
   line-from us what (InLine.literal r ds k ls f b) =
       subst (λ (v : List ℕ). FromRule (r ∷ (ds ++ (k ∷ v))) what) (append-nil (codeAll codeLiteral ls))
-      (second r (f .least, omega (arith, f .most)) (second ds (f .all) (second k (omega arith, omega (arith, b .few)) (after ls (b .more) (b .each) ((λ x i y j. absurd (List·Memᴰ·not-nil j)), b .apart) whole))))
+      (second r (f .least, omega (arith, f .most)) (second ds (f .all) (second k (omega arith, omega (arith, b .few)) (after ls (b .more) (b .sound .each) ((λ x i y j. absurd (List·Memᴰ·not-nil j)), b .sound .apart) whole))))
   line-from us what (InLine.inLiteral r ds k ls f b d) =
-      second r (f .least, omega (arith, f .most)) (second ds (f .all) (second k (omega arith, omega (arith, b .few)) (after ls (b .more) (b .each) ((λ x i y j. absurd (List·Memᴰ·not-nil j)), b .apart) (part d))))
+      second r (f .least, omega (arith, f .most)) (second ds (f .all) (second k (omega arith, omega (arith, b .few)) (after ls (b .more) (b .sound .each) ((λ x i y j. absurd (List·Memᴰ·not-nil j)), b .sound .apart) (part d))))
 
   pub refuses-line : Refuses (line n m) (InLine n m)
   unfolding line

@@ -34,7 +34,7 @@ atoms-follow n (suc d) (disj f g) h = (atoms-follow n d f (h .0), atoms-follow n
 
 entries : (D : Dossier) → DossierForm D → (e : Entry) → e ∈ (D .secret ∷ D .probes) → EntryForm (size D) (length (D .creds)) e
 entries D h e (List·Memᴰ·head q) = rw q (h .secret)
-entries D h e (List·Memᴰ·tail m) = h .probes e m
+entries D h e (List·Memᴰ·tail m) = h .probes .each e m
 
 within : (n : ℕ) (c : Clause) → ClauseForm n c → Within n c
 within n c h = record { head = h .head; body = h .body .below }
@@ -43,8 +43,8 @@ pub soundIsWellFormed : SoundIsWellFormed
 unfolding WellNamed
 soundIsWellFormed D h =
     record {
-      clauses = λ m i. within (size D) (m .clause) (h .clauses m i);
-      creds = λ c i. within (size D) c (h .creds c i);
+      clauses = λ m i. within (size D) (m .clause) (h .clauses .each m i);
+      creds = λ c i. within (size D) c (h .creds .each c i);
       atoms = λ e m. atoms-follow (size D) 16 (e .formula) (entries D h e m .formula);
       rising = λ e m. rising-follows 0 (e .creds) (entries D h e m .creds .rising);
       named = λ e m. entries D h e m .creds .below;

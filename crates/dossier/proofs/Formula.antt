@@ -21,7 +21,7 @@ use Rattle.dossier.proofs.Coded.{both}
 -- a word that no formula has: 3 and 7
 pub data Strange (n x : ℕ) : ℕ → Type 0 where
   high : n ≤ x → x < 256 → Strange n x 3
-  unknown : 259 < x → Strange n x 7
+  unknown : n ≤ x → 259 < x → Strange n x 7
 
 module _ (n lp end : ℕ) (ws : List ℕ) where
   -- why the words from `at` up to `end` are refused, if they may be d deep: the number and the place
@@ -102,6 +102,6 @@ module _ (n lp end : ℕ) (ws : List ℕ) where
       by-choose (ltb x 256) (λ b. amiss (strange [] (drop (at + 1) ws) (s .words) (omega arith) w first (high (ltb-false _ _ a) (ltb-true _ _ b)))) (λ b.
       by-choose (eqb x 256) (λ e. formula (rw (eqb-true x 256 e) at s) tt (omega arith)) (λ e.
       by-choose (eqb x 257) (λ k. not-comes (rw (eqb-true x 257 k) at s) (operand-comes d (at + 1) fits (omega arith))) (λ k.
-      by-choose (ltb 259 x) (λ z. amiss (strange [] (drop (at + 1) ws) (s .words) (omega arith) w first (unknown (ltb-true _ _ z)))) (λ z.
+      by-choose (ltb 259 x) (λ z. amiss (strange [] (drop (at + 1) ws) (s .words) (omega arith) w first (unknown (ltb-false _ _ a) (ltb-true _ _ z)))) (λ z.
       let lo : 258 ≤ x = omega (arith, ltb-false x 256 b, eqb-false x 256 e, eqb-false x 257 k) in
       both-come x lo (ltb-false _ _ z) s (λ p j. operand-comes d p fits j) (operand-comes d (at + 1) fits (omega arith))))))))

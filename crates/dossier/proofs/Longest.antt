@@ -54,10 +54,10 @@ entry-most e f = omega (arith, entry-length e, f .creds .few, f .short)
 
 pub dossier-most : (D : Dossier) → DossierForm D → length (codeDossier D) ≤ 8167
 dossier-most D f =
-    let clauses : length (codeAll codeMarked (D .clauses)) ≤ 128 * 11 = many-most codeMarked 11 (D .clauses) 128 (f .fewClauses) (λ c i. omega (arith, clause-most (c .clause) (f .clauses c i))) in
-    let creds : length (codeAll codeClause (D .creds)) ≤ 32 * 10 = many-most codeClause 10 (D .creds) 32 (f .fewCreds) (λ c i. clause-most c (f .creds c i)) in
-    let probes : length (codeAll codeEntry (D .probes)) ≤ 64 * 98 = many-most codeEntry 98 (D .probes) 64 (f .fewProbes) (λ e i. entry-most e (f .probes e i)) in
-    omega (arith, dossier-length D, f .few, entry-most (D .secret) (f .secret))
+    let clauses : length (codeAll codeMarked (D .clauses)) ≤ 128 * 11 = many-most codeMarked 11 (D .clauses) 128 (f .clauses .most) (λ c i. omega (arith, clause-most (c .clause) (f .clauses .each c i))) in
+    let creds : length (codeAll codeClause (D .creds)) ≤ 32 * 10 = many-most codeClause 10 (D .creds) 32 (f .creds .most) (λ c i. clause-most c (f .creds .each c i)) in
+    let probes : length (codeAll codeEntry (D .probes)) ≤ 64 * 98 = many-most codeEntry 98 (D .probes) 64 (f .probes .most) (λ e i. entry-most e (f .probes .each e i)) in
+    omega (arith, dossier-length D, f .labels .few, entry-most (D .secret) (f .secret))
 
 -- ---- one is so long
 
@@ -139,15 +139,10 @@ full-form =
     let clause = clause-form n (omega arith) in
     let entry = entry-form n m (omega arith) in
     record {
-      some = omega arith;
-      few = omega arith;
-      rising = numbers-rising 0 64;
-      fewClauses = omega (arith, length-replicate 128 fullMarked);
-      clauses = λ c i. rw (copy-is fullMarked 128 i) clause;
-      fewCreds = omega arith;
-      creds = λ c i. rw (copy-is fullClause 32 i) clause;
-      fewProbes = omega (arith, length-replicate 64 fullEntry);
-      probes = λ e i. rw (copy-is fullEntry 64 i) entry;
+      labels = record { some = omega arith; few = omega arith; rising = numbers-rising 0 64 };
+      clauses = record { least = omega arith; most = omega (arith, length-replicate 128 fullMarked); each = λ c i. rw (copy-is fullMarked 128 i) clause };
+      creds = record { least = omega arith; most = omega arith; each = λ c i. rw (copy-is fullClause 32 i) clause };
+      probes = record { least = omega arith; most = omega (arith, length-replicate 64 fullEntry); each = λ e i. rw (copy-is fullEntry 64 i) entry };
       secret = entry;
     }
 

@@ -42,29 +42,8 @@ reads-sections =
     (λ D k. λ i. record { labels = sym (k .1 .1 .1 .0) i; clauses = sym (k .1 .1 .0) i; creds = sym (k .1 .0) i; probes = sym (k .0) i; secret = D .secret }))))))
     (λ D f. ap (λ (l : List ℕ). codeList (D .labels) ++ (codeMany codeMarked (D .clauses) ++ (codeMany codeClause (D .creds) ++ (codeMany codeEntry (D .probes) ++ 1 ∷ l)))) (sym (append-nil (codeEntry (D .secret)))))
     (λ D. (
-      λ f.
-          let a = f .1 .0 in
-          let b = f .1 .1 .0 in
-          let c = f .1 .1 .1 .0 in
-          let d = f .1 .1 .1 .1 .0 in
-          let e = f .1 .1 .1 .1 .1 in
-          record { some = a .some; few = a .few; rising = a .rising; fewClauses = b .most; clauses = b .each; fewCreds = c .most; creds = c .each; fewProbes = d .most; probes = d .each; secret = e },
-      λ f. (
-        tt,
-        (
-          record { some = f .some; few = f .few; rising = f .rising },
-          (
-            record { least = omega arith; most = f .fewClauses; each = f .clauses },
-            (
-              record { least = omega arith; most = f .fewCreds; each = f .creds },
-              (
-                record { least = omega arith; most = f .fewProbes; each = f .probes },
-                f .secret,
-              ),
-            ),
-          ),
-        ),
-      ),
+      λ f. record { labels = f .1 .0; clauses = f .1 .1 .0; creds = f .1 .1 .1 .0; probes = f .1 .1 .1 .1 .0; secret = f .1 .1 .1 .1 .1 },
+      λ f. (tt, (f .labels, (f .clauses, (f .creds, (f .probes, f .secret))))),
     ))
 
 -- ---- the theorems

@@ -1,5 +1,5 @@
 -- When the readers of a dossier's parts refuse: clauses, marked clauses, formulas and entries.
-use Prim.Native.Nat.{ℕ, zero, suc, _+_, _-_, _<_, _≤_}
+use Prim.Native.Nat.{ℕ, suc, _+_, _-_, _<_, _≤_}
 use mathlib.Core.Path.{_≡_, refl, sym, ap, ap₂, _∙_, subst}
 use mathlib.Core.Bool.{Bool, true, false}
 use mathlib.Core.List.{List, [], _∷_, _++_, append-assoc, append-nil}
@@ -7,12 +7,12 @@ use mathlib.Core.Logic.{_⊎_, inl, inr}
 use native.Mathlib.Omega.{arith}
 use lib.Dec.{leb, eqb}
 use lib.ListN.{length, getD, take, drop, length-append, length-take, length-drop, take-append-drop}
-use borrow.Author.Tests.{lt-ltb, le-ltb, lt-leb, le-leb, leb-true, leb-false, eqb-false, ne-eqb}
+use borrow.Author.Tests.{lt-leb, le-leb, leb-true, leb-false, eqb-false, ne-eqb}
 use Rattle.words.specs.Out.{Out, got, bad, then, need, present}
 use Rattle.words.specs.Code.{codeList}
 use Rattle.words.specs.Read.{ranged}
 use Rattle.words.proofs.Promise.{OK, fine, none, Spans, spans-word, lies, past, reads-ranged}
-use Rattle.meaning.specs.Tests.{_is_, choose}
+use Rattle.meaning.specs.Tests.{_is_}
 use Rattle.meaning.specs.Formula.{Formula}
 use Rattle.promise.specs.Code.{bit, codeFormula}
 use Rattle.promise.specs.Form.{ListForm, FormulaForm}
@@ -20,9 +20,10 @@ use Rattle.promise.specs.Due.{Word, count, mark, What, one, InAtoms, InCredenti
 use Rattle.promise.specs.Table.{Wrong, Fault, Operand, LengthForm}
 use Rattle.promise.proofs.Refused.{Why, because, Stops, went, stops, Refuses, refuses-as, refuses-made, Seq, first, second, refuses-then, spans-within, Only, only}
 use Rattle.promise.proofs.Due.{refuses-ranged, refuses-count, refuses-atom, refuses-atoms, refuses-credentials}
-use Rattle.dossier.specs.Read.{clause, marked, byKind, operand, formula, entry}
+use Rattle.dossier.specs.Read.{clause, marked, operand, formula, entry}
 use Rattle.dossier.proofs.Coded.{exact-operand, operand-refused}
 use Rattle.dossier.proofs.Formula.{Strange, high, unknown, Comes, amiss, strange, misfit, operand-comes}
+use Rattle.dossier.proofs.Operand.{operand-deep, operand-past, operand-strange}
 use Rattle.dossier.proofs.Items.{bit-is, bit-below, reads-creds}
 
 -- ---- clauses
@@ -71,27 +72,6 @@ refuses-marked n =
     from us what (InMarked.clause v {us = vs} d) = bit-first v vs what d
 
 -- ---- formulas
-
-module _ (n lp end : ℕ) (ws : List ℕ) (at : ℕ) where
-  -- an operand that starts with a strange word, or past the end, or too deep
-  operand-strange : (d : ℕ) {x e : ℕ} → n ≤ 256 → at < end → getD ws at 0 ≡ x → Strange n x e → operand n lp end (suc d) ws at ≡ bad e at 1
-  unfolding operand byKind choose _is_
-  operand-strange d small h w (high a b) = simp (lt-ltb _ _ h, w, le-ltb _ _ a, lt-ltb _ _ b)
-  operand-strange d {x = x} small h w (unknown a) =
-      let b : n ≤ x = omega arith in
-      let c : 256 ≤ x = omega arith in
-      let f : x ≡ 256 → ⊥ = λ z. omega (arith, z) in
-      let g : x ≡ 257 → ⊥ = λ z. omega (arith, z) in
-      simp (lt-ltb _ _ h, w, le-ltb _ _ b, le-ltb _ _ c, ne-eqb _ _ f, ne-eqb _ _ g, lt-ltb _ _ a)
-
-  operand-past : (d : ℕ) → end ≤ at → operand n lp end d ws at ≡ bad 8 lp 1
-  unfolding operand
-  operand-past zero h = refl
-  operand-past (suc d) h = simp (le-ltb _ _ h)
-
-  operand-deep : operand n lp end 0 ws at ≡ bad 8 lp 1
-  unfolding operand
-  operand-deep = refl
 
 -- the tail of reading a formula, once its length is known
 abbrev tail : ℕ → List ℕ → ℕ → ℕ → ℕ → Out Formula
@@ -142,7 +122,7 @@ module _ (n : ℕ) (ws : List ℕ) (at : ℕ) where
       where
         row : {e : ℕ} (fs more : List ℕ) → LengthForm (us ++ (x ∷ fs)) → Strange n x e → Fault (What.formula n) (codeList (us ++ (x ∷ fs)) ++ more) e (1 + length us) (x ∷ [])
         row fs more l (high a b) = Fault.high us fs more l o a (omega arith)
-        row fs more l (unknown a) = Fault.unknown us fs more l o a
+        row fs more l (unknown a b) = Fault.unknown us fs more l o b
 
     why-misfit : {d : ℕ} (us rest : List ℕ) → drop p ws ≡ us ++ rest → p + length us ≤ p + len → Operand n 16 us d → (d ≡ 0) ⊎ (p + length us ≡ p + len) → W 8 at 1
     why-misfit us rest v h o (inl z) =
@@ -210,12 +190,12 @@ module _ (n : ℕ) (ws : List ℕ) (at : ℕ) where
     next-is us x fs more v = lies ws (at + 1 + length us) (past ws (at + 1) us (lies ws at v .after ∙ append-assoc us (x ∷ fs) more)) .this
 
     so-strange : (us : List ℕ) (x : ℕ) (fs more : List ℕ) {d e : ℕ} → drop at ws ≡ codeList (us ++ (x ∷ fs)) ++ more → LengthForm (us ++ (x ∷ fs)) → Operand n 16 us (suc d) → Strange n x e → formula n ws at ≡ bad e (at + 1 + length us) 1
-    so-strange us x fs more {d} v l o y = led us (x ∷ fs) more v l o (operand-strange n at (at + 1 + length (us ++ (x ∷ fs))) ws (at + 1 + length us) d small (omega (arith, length-append us (x ∷ fs))) (next-is us x fs more v) y)
+    so-strange us x fs more {d} v l o y = led us (x ∷ fs) more v l o (operand-strange n at (at + 1 + length (us ++ (x ∷ fs))) (suc d) ws (at + 1 + length us) (omega arith) (omega (arith, length-append us (x ∷ fs))) (next-is us x fs more v) y)
 
     so-past : (fs more : List ℕ) {d : ℕ} → drop at ws ≡ codeList fs ++ more → LengthForm fs → Operand n 16 fs d → formula n ws at ≡ bad 8 at 1
     so-past fs more {d} v l o =
         let (f, u) = formula-words fs more v l in
-        f ∙ ap (λ (a : Out Formula). then a (λ g q. need (eqb q (at + 1 + length fs)) 8 at (got g q))) (operand-refused n at (at + 1 + length fs) ws small 16 (at + 1) fs more d o u (omega arith) (operand-past n at (at + 1 + length fs) ws (at + 1 + length fs) d (omega arith)))
+        f ∙ ap (λ (a : Out Formula). then a (λ g q. need (eqb q (at + 1 + length fs)) 8 at (got g q))) (operand-refused n at (at + 1 + length fs) ws small 16 (at + 1) fs more d o u (omega arith) (operand-past n at (at + 1 + length fs) d ws (at + 1 + length fs) (omega arith)))
 
     so-before : (f : Formula) (x : ℕ) (fs more : List ℕ) → drop at ws ≡ codeList (codeFormula f ++ (x ∷ fs)) ++ more → LengthForm (codeFormula f ++ (x ∷ fs)) → FormulaForm n 16 f → formula n ws at ≡ bad 8 at 1
     so-before f x fs more v l g =
@@ -246,8 +226,8 @@ module _ (n : ℕ) (ws : List ℕ) (at : ℕ) where
         let j : length ws ≡ p = omega (arith, z, length-drop (at + 1) ws, ap length (y .after), y .here) in
         so-few len fs v a b i ∙ ap₂ (λ (i j : ℕ). bad 1 i j) j (sym c)
     refused-at {p = p} rest v (Fault.high {x = x} us fs more l o a b) z c = let j : at + 1 + length us ≡ p = omega (arith, z) in so-strange us x fs more v l o (high a (omega arith)) ∙ ap₂ (λ (i j : ℕ). bad 3 i j) j (sym c)
-    refused-at {p = p} rest v (Fault.unknown {x = x} us fs more l o a) z c = let j : at + 1 + length us ≡ p = omega (arith, z) in so-strange us x fs more v l o (unknown a) ∙ ap₂ (λ (i j : ℕ). bad 7 i j) j (sym c)
-    refused-at {p = p} rest v (Fault.tooDeep us fs more l o) z c = let j : at ≡ p = omega (arith, z) in led us fs more v l o (operand-deep n at (at + 1 + length (us ++ fs)) ws (at + 1 + length us)) ∙ ap₂ (λ (i j : ℕ). bad 8 i j) j (sym c)
+    refused-at {p = p} rest v (Fault.unknown {x = x} us fs more l o a) z c = let j : at + 1 + length us ≡ p = omega (arith, z) in so-strange us x fs more v l o (unknown (omega arith) a) ∙ ap₂ (λ (i j : ℕ). bad 7 i j) j (sym c)
+    refused-at {p = p} rest v (Fault.tooDeep us fs more l o) z c = let j : at ≡ p = omega (arith, z) in led us fs more v l o (operand-deep n at (at + 1 + length (us ++ fs)) 0 ws (at + 1 + length us) refl) ∙ ap₂ (λ (i j : ℕ). bad 8 i j) j (sym c)
     refused-at {p = p} rest v (Fault.needs fs more l o) z c = let j : at ≡ p = omega (arith, z) in so-past fs more v l o ∙ ap₂ (λ (i j : ℕ). bad 8 i j) j (sym c)
     refused-at {p = p} rest v (Fault.complete f x fs more l g) z c = let j : at ≡ p = omega (arith, z) in so-before f x fs more v l g ∙ ap₂ (λ (i j : ℕ). bad 8 i j) j (sym c)
 

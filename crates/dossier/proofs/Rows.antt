@@ -14,7 +14,8 @@ use Rattle.words.specs.declared.Range.the-variants.{Any}
 use Rattle.words.proofs.Promise.{OK, fine, none, ok-then, ok-need, Spans, spans-word, Reads, reads-as, reads-ranged, reads-listed, reads-section}
 use Rattle.words.proofs.Parts.{reads-after}
 use Rattle.promise.specs.Code.{codeMarked, codeClause, codeEntry}
-use Rattle.promise.specs.Due.{What, one, count, InSection, SectionForm, InEntry, InLabels, LabelsForm, InClauses, ClausesForm, InCreds, CredsForm, InProbes, ProbesForm, InSecret, InDossier}
+use Rattle.promise.specs.Form.{SectionForm, LabelsForm, ClausesForm, CredsForm, ProbesForm}
+use Rattle.promise.specs.Due.{What, one, count, InSection, InEntry, InLabels, InClauses, InCreds, InProbes, InSecret, InDossier}
 use Rattle.promise.specs.Table.{FormRow}
 use Rattle.promise.proofs.Refused.{Why, because, Stops, went, stops, Refuses, refuses-as, refuses-made, refuses-after, Seq, first, second, refuses-then, Only, only}
 use Rattle.promise.proofs.Due.{refuses-count, refuses-labels, refuses-section}

@@ -138,7 +138,7 @@ module _ (D : Dossier) (f : DossierForm D) where
   well-named : WellNamed D
   unfolding WellNamed
   well-named e (List·Memᴰ·head q) i m = f .secret .creds .below i (subst (λ (x : Entry). i ∈ x .creds) q m)
-  well-named e (List·Memᴰ·tail t) i m = f .probes e t .creds .below i m
+  well-named e (List·Memᴰ·tail t) i m = f .probes .each e t .creds .below i m
 
 -- ---- the demands
 

@@ -70,7 +70,7 @@ module _ (D : Dossier) (f : DossierForm D) where
   Good = EntryForm (length (D .labels)) (length (D .creds))
 
   seen : Seen entries codeEntry Good
-  seen = entries-seen (length (D .labels)) (omega (arith, f .few)) (length (D .creds))
+  seen = entries-seen (length (D .labels)) (omega (arith, f .labels .few)) (length (D .creds))
 
   at-probes : drop (probesAt D) ws ≡ codeMany codeEntry (D .probes) ++ codeMany codeEntry (D .secret ∷ [])
   unfolding codeDossier
@@ -79,7 +79,7 @@ module _ (D : Dossier) (f : DossierForm D) where
       (words-after ws (clausesAt D) (codeMany codeMarked (D .clauses)) (drop-append-seam (codeList (D .labels)) _))
 
   pub probe-stands : (k : ℕ) (e : Entry) → at (D .probes) k ≡ some e → Stands entries ws (place (entries .next ws) (probesAt D + 1) k) (probesAt D + 1 + length (codeAll codeEntry (take k (D .probes)))) (codeEntry e)
-  probe-stands = each-stands entries codeEntry Good seen entry-long ws (probesAt D + 1) (D .probes) _ (next-words ws (probesAt D) at-probes) (f .probes)
+  probe-stands = each-stands entries codeEntry Good seen entry-long ws (probesAt D + 1) (D .probes) _ (next-words ws (probesAt D) at-probes) (f .probes .each)
 
   pub secret-stands : Stands entries ws (secretAt D + 1) (secretAt D + 1) (codeEntry (D .secret))
   unfolding codeAll
@@ -99,4 +99,4 @@ unfolding codeCertificate PartsForm
 line-stands D ls g =
     let n = length (D .labels) in
     let m = length (D .creds) in
-    each-stands line codeLine (LineForm n m) (lines-seen n m) line-long (codeCertificate (proof ls)) 2 ls [] (sym (append-nil (codeAll codeLine ls))) (g .parts .2)
+    each-stands line codeLine (LineForm n m) (lines-seen n m) line-long (codeCertificate (proof ls)) 2 ls [] (sym (append-nil (codeAll codeLine ls))) (g .parts .each)

@@ -108,7 +108,7 @@ module _ (d c : List ℕ) where
   by-meaning D (witness W) b meant.lastNotEmpty w = absurd w
   by-meaning D (proof ls) b meant.detectable w = (_, (_, Row.detectable D ls b w))
   by-meaning D (proof ls) b (meant.lineFails k) w = let (l, h) = below-at ls k (w .here .0) in (_, (_, Row.line D ls k l b w h))
-  by-meaning D (proof ls) b meant.lastNotEmpty w = let (l, h) = below-at ls (length ls - 1) (omega (arith, b .sound .parts .0)) in (_, (_, Row.last D ls l b w h))
+  by-meaning D (proof ls) b meant.lastNotEmpty w = let (l, h) = below-at ls (length ls - 1) (omega (arith, b .sound .parts .least)) in (_, (_, Row.last D ls l b w h))
   by-meaning D (proof ls) b meant.opaque w = absurd w
   by-meaning D (proof ls) b (meant.probeDiffers k) w = absurd w
   by-meaning D (proof ls) b meant.secretTrue w = absurd w

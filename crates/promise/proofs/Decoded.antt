@@ -35,7 +35,7 @@ module _ (D : Dossier) (f : DossierForm D) where
 
   small : n ≤ 256
   unfolding n
-  small = omega (arith, f .few)
+  small = omega (arith, f .labels .few)
 
   ws : List ℕ
   ws = codeDossier D
@@ -58,7 +58,7 @@ module _ (D : Dossier) (f : DossierForm D) where
 
   clauses-there : SeeMany (marked n) codeMarked ws (clausesAt D + 1) (D .clauses)
   unfolding rest₁ n
-  clauses-there = section-seen (marked n) codeMarked (λ c. ClauseForm n (c .clause)) (marked-seen n) ws (clausesAt D) (D .clauses) rest₂ at₁ (f .clauses)
+  clauses-there = section-seen (marked n) codeMarked (λ c. ClauseForm n (c .clause)) (marked-seen n) ws (clausesAt D) (D .clauses) rest₂ at₁ (f .clauses .each)
 
   at₂ : drop (credsAt D) ws ≡ rest₂
   unfolding rest₁
@@ -66,7 +66,7 @@ module _ (D : Dossier) (f : DossierForm D) where
 
   creds-there : SeeMany (credential n) codeClause ws (credsAt D + 1) (D .creds)
   unfolding rest₂ n
-  creds-there = section-seen (credential n) codeClause (ClauseForm n) (clauses-seen n) ws (credsAt D) (D .creds) rest₃ at₂ (f .creds)
+  creds-there = section-seen (credential n) codeClause (ClauseForm n) (clauses-seen n) ws (credsAt D) (D .creds) rest₃ at₂ (f .creds .each)
 
   at₃ : drop (probesAt D) ws ≡ rest₃
   unfolding rest₂
@@ -74,7 +74,7 @@ module _ (D : Dossier) (f : DossierForm D) where
 
   probes-there : SeeMany (entry n m) codeEntry ws (probesAt D + 1) (D .probes)
   unfolding rest₃ n m
-  probes-there = section-seen (entry n m) codeEntry (EntryForm n m) (entries-seen n small m) ws (probesAt D) (D .probes) rest₄ at₃ (f .probes)
+  probes-there = section-seen (entry n m) codeEntry (EntryForm n m) (entries-seen n small m) ws (probesAt D) (D .probes) rest₄ at₃ (f .probes .each)
 
   at₄ : drop (secretAt D) ws ≡ codeMany codeEntry (D .secret ∷ []) ++ []
   unfolding rest₃ rest₄
@@ -103,10 +103,10 @@ module _ (D : Dossier) (f : DossierForm D) where
   unfolding layoutOf n m
   laid =
       record {
-        atoms = f .few;
-        fewClauses = f .fewClauses;
-        fewCreds = f .fewCreds;
-        few = f .fewProbes;
+        atoms = f .labels .few;
+        fewClauses = f .clauses .most;
+        fewCreds = f .creds .most;
+        few = f .probes .most;
         clauses = clauses-there .fit;
         creds = creds-there .fit;
         probes = probes-there .fit;
@@ -120,8 +120,8 @@ dossierDecoded D f = (decoded D f, laid D f)
 pub certificateDecoded : CertificateDecoded
 unfolding certificateAt codeCertificate proposalOf Proposed PartsForm
 certificateDecoded n m (witness W) f =
-    let s = see-many (credential n) codeClause (ClauseForm n) (clauses-seen n) (codeCertificate (witness W)) 2 W [] (sym (append-nil (codeAll codeClause W))) (f .parts .1) in
+    let s = see-many (credential n) codeClause (ClauseForm n) (clauses-seen n) (codeCertificate (witness W)) 2 W [] (sym (append-nil (codeAll codeClause W))) (f .parts .each) in
     (ap {B = Certificate} witness (s .that), s .fit)
 certificateDecoded n m (proof lines) f =
-    let s = see-many line codeLine (LineForm n m) (lines-seen n m) (codeCertificate (proof lines)) 2 lines [] (sym (append-nil (codeAll codeLine lines))) (f .parts .2) in
-    (ap {B = Certificate} proof (s .that), (f .parts .0, f .parts .1, s .fit))
+    let s = see-many line codeLine (LineForm n m) (lines-seen n m) (codeCertificate (proof lines)) 2 lines [] (sym (append-nil (codeAll codeLine lines))) (f .parts .each) in
+    (ap {B = Certificate} proof (s .that), (f .parts .least, f .parts .most, s .fit))

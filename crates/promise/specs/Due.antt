@@ -10,7 +10,7 @@ use Rattle.meaning.specs.Tests.{_∈_}
 use Rattle.meaning.specs.Policy.{Clause}
 use Rattle.meaning.specs.Papers.{Entry, Marked, Literal}
 use Rattle.promise.specs.Code.{bit, codeClause, codeMarked, codeEntry, codeLiteral, codeLine}
-use Rattle.promise.specs.Form.{ListForm, ClauseForm, EntryForm, StatementForm, Apart, LineForm}
+use Rattle.promise.specs.Form.{ListForm, ClauseForm, MarkedForm, EntryForm, LabelsForm, ClausesForm, CredsForm, ProbesForm, LiteralsForm, LineForm}
 use Rattle.promise.specs.Line.{dataCount}
 
 -- a word that is tested by itself
@@ -51,12 +51,6 @@ pub data InSection {A : Type 0} (lo hi : ℕ) (code : A → List ℕ) (Form : A 
   size : InSection lo hi code Form In [] (one (count lo hi))
   more : (k : ℕ) (xs : List A) {us : List ℕ} {what : What} → lo ≤ k → k ≤ hi → length xs < k → ((x : A) → x ∈ xs → Form x) → In us what → InSection lo hi code Form In (k ∷ (codeAll code xs ++ us)) what
 
--- and a whole one
-pub record SectionForm {A : Type 0} (lo hi : ℕ) (Form : A → Type 0) (xs : List A) : Type 0 where
-  pub least : lo ≤ length xs
-  pub most : length xs ≤ hi
-  pub each : (x : A) → x ∈ xs → Form x
-
 -- ---- the dossier
 
 -- "head, body count (0 to 8), body atoms strictly rising"
@@ -69,9 +63,6 @@ pub data InMarked (n : ℕ) : List ℕ → What → Type 0 where
   mark : InMarked n [] (one Word.mark)
   clause : (v : Bool) {us : List ℕ} {what : What} → InClause n us what → InMarked n (bit v ∷ us) what
 
-abbrev pub MarkedForm : ℕ → Marked → Type 0
-MarkedForm n c = ClauseForm n (c .clause)
-
 -- "credential count (0 to 32), credential numbers strictly rising, formula length (1 to 64), formula words"
 pub data InEntry (n m : ℕ) : List ℕ → What → Type 0 where
   creds : {us : List ℕ} {what : What} → InCredentials m us what → InEntry n m us what
@@ -81,31 +72,17 @@ pub data InEntry (n m : ℕ) : List ℕ → What → Type 0 where
 abbrev pub InLabels : List ℕ → What → Type 0
 InLabels = InList 1 64 (λ x. Unit {0}) label
 
-pub record LabelsForm (ls : List ℕ) : Type 0 where
-  pub some : 1 ≤ length ls
-  pub few : length ls ≤ 64
-  pub rising : RisingFrom 0 ls
-
 -- "Clause count (0 to 128)", "Credential count (0 to 32)", "Probe count (0 to 64)", "a count that must be 1, then the secret"
 module _ (n : ℕ) where
   abbrev pub InClauses : List ℕ → What → Type 0
   InClauses = InSection 0 128 codeMarked (MarkedForm n) (InMarked n)
 
-  abbrev pub ClausesForm : List Marked → Type 0
-  ClausesForm = SectionForm 0 128 (MarkedForm n)
-
   abbrev pub InCreds : List ℕ → What → Type 0
   InCreds = InSection 0 32 codeClause (ClauseForm n) (InClause n)
-
-  abbrev pub CredsForm : List Clause → Type 0
-  CredsForm = SectionForm 0 32 (ClauseForm n)
 
   module _ (m : ℕ) where
     abbrev pub InProbes : List ℕ → What → Type 0
     InProbes = InSection 0 64 codeEntry (EntryForm n m) (InEntry n m)
-
-    abbrev pub ProbesForm : List Entry → Type 0
-    ProbesForm = SectionForm 0 64 (EntryForm n m)
 
     abbrev pub InSecret : List ℕ → What → Type 0
     InSecret = InSection 1 1 codeEntry (EntryForm n m) (InEntry n m)
@@ -145,8 +122,7 @@ pub record Ruled (r : ℕ) (ds : List ℕ) : Type 0 where
 pub record Begun (n m k : ℕ) (ls : List Literal) : Type 0 where
   pub few : k ≤ 8
   pub more : length ls < k
-  pub each : (x : Literal) → x ∈ ls → StatementForm n m (x .said)
-  pub apart : Apart ls
+  pub sound : LiteralsForm n m ls
 
 -- "rule (1 to 8), the rule's data words, literal count (0 to 8), literals"
 pub data InLine (n m : ℕ) : List ℕ → What → Type 0 where

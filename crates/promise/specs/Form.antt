@@ -35,16 +35,36 @@ pub record EntryForm (n m : ℕ) (e : Entry) : Type 0 where
   pub formula : FormulaForm n 16 (e .formula)
   pub short : length (codeFormula (e .formula)) ≤ 64
 
+-- "n (1 to 64), then n labels, strictly rising"
+pub record LabelsForm (ls : List ℕ) : Type 0 where
+  pub some : 1 ≤ length ls
+  pub few : length ls ≤ 64
+  pub rising : RisingFrom 0 ls
+
+-- a section: so many things, each well formed
+pub record SectionForm {A : Type 0} (lo hi : ℕ) (Form : A → Type 0) (xs : List A) : Type 0 where
+  pub least : lo ≤ length xs
+  pub most : length xs ≤ hi
+  pub each : (x : A) → x ∈ xs → Form x
+
+abbrev pub MarkedForm : ℕ → Marked → Type 0
+MarkedForm n c = ClauseForm n (c .clause)
+
+-- "Clause count (0 to 128)", "Credential count (0 to 32)", "Probe count (0 to 64)"
+abbrev pub ClausesForm : ℕ → List Marked → Type 0
+ClausesForm n = SectionForm 0 128 (MarkedForm n)
+
+abbrev pub CredsForm : ℕ → List Clause → Type 0
+CredsForm n = SectionForm 0 32 (ClauseForm n)
+
+abbrev pub ProbesForm : ℕ → ℕ → List Entry → Type 0
+ProbesForm n m = SectionForm 0 64 (EntryForm n m)
+
 pub record DossierForm (D : Dossier) : Type 0 where
-  pub some : 1 ≤ length (D .labels)
-  pub few : length (D .labels) ≤ 64
-  pub rising : RisingFrom 0 (D .labels)
-  pub fewClauses : length (D .clauses) ≤ 128
-  pub clauses : (c : Marked) → c ∈ D .clauses → ClauseForm (length (D .labels)) (c .clause)
-  pub fewCreds : length (D .creds) ≤ 32
-  pub creds : (c : Clause) → c ∈ D .creds → ClauseForm (length (D .labels)) c
-  pub fewProbes : length (D .probes) ≤ 64
-  pub probes : (e : Entry) → e ∈ D .probes → EntryForm (length (D .labels)) (length (D .creds)) e
+  pub labels : LabelsForm (D .labels)
+  pub clauses : ClausesForm (length (D .labels)) (D .clauses)
+  pub creds : CredsForm (length (D .labels)) (D .creds)
+  pub probes : ProbesForm (length (D .labels)) (length (D .creds)) (D .probes)
   pub secret : EntryForm (length (D .labels)) (length (D .creds)) (D .secret)
 
 pub record StatementForm (n m : ℕ) (s : Statement) : Type 0 where
@@ -57,16 +77,21 @@ unfoldable pub Apart : List Literal → Type 0
 Apart [] = Unit {0}
 Apart (l ∷ ls) = ((m : Literal) → m ∈ ls → l .said ≡ m .said → ⊥) × Apart ls
 
+pub record LiteralsForm (n m : ℕ) (ls : List Literal) : Type 0 where
+  pub each : (x : Literal) → x ∈ ls → StatementForm n m (x .said)
+  pub apart : Apart ls
+
+-- "literal count (0 to 8), literals"
 pub record LineForm (n m : ℕ) (l : Line) : Type 0 where
   pub few : length (l .literals) ≤ 8
-  pub each : (x : Literal) → x ∈ l .literals → StatementForm n m (x .said)
-  pub apart : Apart (l .literals)
+  pub literals : LiteralsForm n m (l .literals)
+
+-- "Witness: 1, clause count (0 to 128), clauses." "Proof: 2, line count (1 to 1,024), lines."
+unfoldable pub PartsForm : ℕ → ℕ → Certificate → Type 0
+PartsForm n m (witness W) = SectionForm 0 128 (ClauseForm n) W
+PartsForm n m (proof lines) = SectionForm 1 1024 (LineForm n m) lines
 
 -- "Certificate, at most 24,000 words."
-unfoldable pub PartsForm : ℕ → ℕ → Certificate → Type 0
-PartsForm n m (witness W) = (length W ≤ 128) × ((c : Clause) → c ∈ W → ClauseForm n c)
-PartsForm n m (proof lines) = (1 ≤ length lines) × (length lines ≤ 1024) × ((l : Line) → l ∈ lines → LineForm n m l)
-
 pub record CertificateForm (n m : ℕ) (C : Certificate) : Type 0 where
   pub parts : PartsForm n m C
   pub short : length (codeCertificate C) ≤ 24000

@@ -6,7 +6,8 @@ use native.Mathlib.Omega.{arith}
 use borrow.Fn.Kinds.{In}
 use borrow.Fn.PlainCycle.{Measures, is, falls, and}
 use Rattle.words.proofs.Steps.{refused, passed}
-use Rattle.dossier.proofs.Operand.{op-deep, op-past, op-atom, op-high, op-true, op-not, op-kind, op-bad, op-both}
+use Rattle.dossier.proofs.Operand.{op-deep, op-past, op-atom, op-strange, op-true, op-not, op-bad, op-both}
+use Rattle.dossier.proofs.Formula.{high, unknown}
 use Rattle.dossier.proofs.operand_at.Reads as f
 use Rattle.dossier.proofs.operand_at.Kinds as kinds
 use Rattle.dossier.proofs.+operand_at.Lts-operand_at as lts
@@ -26,7 +27,7 @@ returns : (t : ℕ) → lts.Need-returns (below t, f.Post) (at t) f.Post
 returns t c = sym (op-deep _ _ _ _ _ _ (c .if1 .taken))
 
 returns-2 : (t : ℕ) → lts.Need-returns-2 (below t, f.Post) (at t) f.Post
-returns-2 t c = sym (op-past _ _ _ _ _ _ (c .before .if1 .left) (c .if2 .taken))
+returns-2 t c = sym (op-past _ _ _ _ _ _ (c .if2 .taken))
 
 mul-x : (t : ℕ) → lts.Need-mul-x (below t, f.Post) (at t) f.Post
 mul-x t c = search needs
@@ -48,7 +49,7 @@ returns-3 t c =
 returns-4 : (t : ℕ) → lts.Need-returns-4 (below t, f.Post) (at t) f.Post
 returns-4 t c =
     let i = c in
-    sym (op-high _ _ _ _ _ _ (i .before .before .before .before .if1 .left) (i .before .before .before .if2 .left) (i .before .if3 .left) (i .if4 .taken))
+    sym (op-strange _ _ _ _ _ _ (i .before .before .before .before .if1 .left) (i .before .before .before .if2 .left) (high (i .before .if3 .left) (i .if4 .taken)))
 
 add-t17 : (t : ℕ) → lts.Need-add-t17 (below t, f.Post) (at t) f.Post
 add-t17 t c = search needs
@@ -75,7 +76,7 @@ returns-6 t c =
 returns-7 : (t : ℕ) → lts.Need-returns-7 (below t, f.Post) (at t) f.Post
 returns-7 t c =
     let i = c in
-    sym (op-kind _ _ _ _ _ _ (i .before .before .before .before .before .before .before .if1 .left) (i .before .before .before .before .before .before .if2 .left) (i .before .before .before .before .if3 .left) (i .before .before .before .if4 .left) (i .before .before .if5 .left) (i .before .if6 .left) (i .if7 .taken))
+    sym (op-strange _ _ _ _ _ _ (i .before .before .before .before .before .before .before .if1 .left) (i .before .before .before .before .before .before .if2 .left) (unknown (i .before .before .before .before .if3 .left) (i .if7 .taken)))
 
 sub-operand-at-2 : (t : ℕ) → lts.Need-sub-operand-at-2 (below t, f.Post) (at t) f.Post
 sub-operand-at-2 t c = search needs
