@@ -7,10 +7,8 @@ use lib.ListN.{length, getD, set, length-set, take, drop, length-append, length-
 use lib.Seq.{getD-set-same, getD-set-other, ext-getD, take-at}
 use borrow.Author.Count.{below-more}
 use Rattle.meaning.specs.Policy.{Policy}
-use Rattle.evaluation.specs.Table.{has, fireAll, rounds, below, grown}
+use Rattle.evaluation.specs.Table.{fireAll, rounds}
 use Rattle.evaluation.proofs.Firing.{fireAll-length}
-use Rattle.meaning.specs.Tests.{_and_, any}
-use mathlib.Core.Bool.{Bool, not}
 
 -- as long, and the same below i
 pub record Same (a b : List ℕ) (i : ℕ) : Type 0 where
@@ -55,11 +53,3 @@ pub rounds-length : (P : Policy) (k : ℕ) (t : List ℕ) → length (rounds P k
 unfolding rounds
 rounds-length P zero t = refl
 rounds-length P (suc k) t = rounds-length P k (fireAll t P t) ∙ fireAll-length t P t
-
--- 64 rounds, a copy, one round more, and the comparison
-pub grown-is : (P : Policy) (t : List ℕ) {a b u : List ℕ} {r : Bool} → a ≡ rounds P 64 t → b ≡ a → u ≡ rounds P 1 b → r ≡ any (λ x. has u x and not (has a x)) (below (length a)) → r ≡ grown P t
-unfolding grown
-grown-is P t {a} {b} {u} e f g h =
-    let n : length a ≡ length t = ap length e ∙ rounds-length P 64 t in
-    let v : u ≡ rounds P 1 a = g ∙ ap (rounds P 1) f in
-    h ∙ rw (v, n, e)

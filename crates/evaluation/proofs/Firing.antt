@@ -1,13 +1,13 @@
 -- Firing the clauses of a policy, one after the other.
 use Prim.Native.Nat.{ℕ, zero, suc, _+_, _-_, _<_, _≤_}
 use mathlib.Core.Path.{_≡_, refl, sym, ap, _∙_, subst}
-use mathlib.Core.Bool.{Bool, true, false, not}
+use mathlib.Core.Bool.{Bool, true, false}
 use mathlib.Core.List.{List, [], _∷_, _++_, map, append-nil, List·Memᴰ·head, List·Memᴰ·tail}
 use mathlib.Core.Option.{some}
 use native.Mathlib.Omega.{arith}
 use lib.Dec.{eqb}
 use lib.ListN.{length, getD, set, length-set}
-use Rattle.meaning.specs.Tests.{_∈_, _and_, _or_, _is_, any, all, choose, put, keep, at}
+use Rattle.meaning.specs.Tests.{_∈_, _or_, _is_, all, choose, put, keep, at}
 use Rattle.meaning.specs.Policy.{Clause, Policy}
 use Rattle.meaning.specs.Formula.{pick, chosen, joined}
 use Rattle.meaning.specs.Papers.{Marked, policy, visible}
@@ -19,7 +19,7 @@ use Rattle.promise.specs.declared.ClauseAt.{ClauseAt}
 use Rattle.promise.specs.declared.EntryAt.{EntryAt}
 use Rattle.promise.specs.declared.Layout.{Layout}
 use Rattle.promise.proofs.Place.{part-none, part-cons, place-next, many-none, many-on, many-at, fit-first, fit-on}
-use Rattle.evaluation.specs.Table.{has, fireOne, fireAll, below}
+use Rattle.evaluation.specs.Table.{has, fireOne, fireAll}
 use Rattle.evaluation.specs.Which.{Fires, kept, fireMarked, namedAt, NamedFits, named, policyAt, joinedAt, WhichFits, Sources}
 use Rattle.evaluation.specs.declared.Which.{Which}
 use Rattle.evaluation.specs.declared.Which.the-variants.{Own, Tried}
@@ -211,29 +211,3 @@ module _ (d : List ℕ) (o : Layout) (creds w : List ℕ) (which : Which) (e : E
       let S = chosen (many (credential (o .atoms)) d (o .creds) (o .ncreds)) (part d (e .creds) (e .count)) in
       let same : many (named n creds) d (e .creds) (e .count) ≡ S = ap (λ (j : ℕ). many (named j creds) d (e .creds) (e .count)) size ∙ named-is (o .atoms) d (o .creds) (o .ncreds) creds (s .ready .laid .creds) (s .ready .starts) (e .count) (e .creds) (s .there) (s .names) in
       g ∙ rw (same, f, c) (sym (ap (λ (Q : Policy). fireAll table (P ++ Q) table) (append-nil S) ∙ fireAll-append table P S table))
-
--- ---- whether a table grows
-
-module _ (old new : List ℕ) where
-  abbrev pub more : ℕ → Bool
-  more a = has new a and not (has old a)
-
-  pub grows-none : (k : ℕ) → k ≤ 0 → any more (below k) ≡ false
-  unfolding any below
-  grows-none k h = let z : k ≡ 0 = omega arith in rw z
-
-  grows-step : (k : ℕ) → 0 < k → any more (below k) ≡ more (k - 1) or any more (below (k - 1))
-  unfolding any below
-  grows-step k h = on (k - 1) (omega arith)
-    where
-      on : (j : ℕ) → k ≡ suc j → any more (below k) ≡ more j or any more (below j)
-      on j z = rw z
-
-  module _ (k : ℕ) (h : 0 < k) {r : Bool} (e : r ≡ more (k - 1)) where
-    pub grows-yes : r ≡ true → any more (below k) ≡ true
-    unfolding _or_
-    grows-yes t = grows-step k h ∙ rw (sym e ∙ t)
-
-    pub grows-not : r ≡ false → any more (below k) ≡ any more (below (k - 1))
-    unfolding _or_
-    grows-not t = grows-step k h ∙ rw (sym e ∙ t)

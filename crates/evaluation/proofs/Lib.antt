@@ -2,3 +2,5 @@ pub mod Firing
 pub mod Copying
 pub mod Rounds
 pub mod Entry
+pub mod Atoms
+pub mod Enough

@@ -1,3 +1,4 @@
 pub mod Table
 pub mod Which
 pub mod Answer
+pub mod Enough

@@ -2,8 +2,8 @@
 use Prim.Native.Nat.{ℕ, zero, suc}
 use mathlib.Core.Bool.{Bool, true, not}
 use mathlib.Core.List.{List, [], _∷_}
-use lib.ListN.{length, getD, set}
-use Rattle.meaning.specs.Tests.{_is_, _and_, _or_, all, any, choose}
+use lib.ListN.{getD, set}
+use Rattle.meaning.specs.Tests.{_is_, _and_, _or_, all, choose}
 use Rattle.meaning.specs.Policy.{Clause, Policy}
 use Rattle.meaning.specs.Formula.{Reading}
 
@@ -27,12 +27,3 @@ rounds P (suc k) t = rounds P k (fireAll t P t)
 -- a formula read in the table
 unfoldable pub inTable : List ℕ → Reading Bool
 inTable t = record { always = true; atom = has t; neg = not; conj = _and_; disj = _or_ }
-
--- the numbers below n
-unfoldable pub below : ℕ → List ℕ
-below zero = []
-below (suc n) = n ∷ below n
-
--- one round more after 64 has an atom that those lack
-unfoldable pub grown : Policy → List ℕ → Bool
-grown P t = any (λ a. has (rounds P 1 (rounds P 64 t)) a and not (has (rounds P 64 t) a)) (below (length t))

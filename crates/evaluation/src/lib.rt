@@ -3,32 +3,26 @@ use promise::ClauseAt;
 use promise::EntryAt;
 use promise::Layout;
 ghost use mathlib.Core.Path.{_≡_};
-ghost use mathlib.Core.Bool.{not, true, false};
+ghost use mathlib.Core.Bool.{true};
 ghost use Prim.Native.Nat.{ℕ, _+_, _≤_, _<_};
 ghost use lib.ListN.{length, replicate, set};
-ghost use Rattle.meaning.specs.Tests.{_∈_, _and_, _or_, _is_, all, any, choose};
+ghost use Rattle.meaning.specs.Tests.{_∈_, _and_, _or_, _is_, all, choose};
 ghost use Rattle.meaning.specs.Formula.{read};
+ghost use Rattle.promise.specs.Code.{bit};
 ghost use Rattle.promise.specs.Place.{part, many, Fit, Starts, filled};
 ghost use Rattle.promise.specs.Formula.{FormulaFits, formulaAt, formulaEnd, EntryFits, entry};
 ghost use Rattle.promise.specs.Clause.{clauseAt, clauseOf, ClauseFits, credential, markedAt, markedOf, marked};
 ghost use Rattle.promise.specs.Layout.{Laid};
-ghost use Rattle.evaluation.specs.Table.{has, fireOne, fireAll, rounds, inTable, below, grown};
+ghost use Rattle.evaluation.specs.Table.{has, fireOne, fireAll, rounds, inTable};
 ghost use Rattle.evaluation.specs.Which.{kept, fireMarked, Fires, NamedFits, namedAt, named};
 ghost use Rattle.evaluation.specs.Which.{WhichFits, policyAt, joinedAt, Ready, Sources};
-ghost use Rattle.evaluation.specs.Answer.{wordOf, asAnswer, answerOf, answerWord};
+ghost use Rattle.evaluation.specs.Answer.{answerOf, answerWord};
 ghost use Rattle.evaluation.specs.declared.Which.the-variants.{Own};
 
 // The policy that is evaluated: the dossier's own, or its visible clauses with the certificate's so many.
 pub enum Which {
     Own,
     Tried(usize),
-}
-
-// An entry's answer; or that 64 rounds were not enough.
-pub enum Answer {
-    No,
-    Yes,
-    Unsettled,
 }
 
 fn either(a: bool, b: bool) -> bool
@@ -210,23 +204,14 @@ fn one_round(
     fire_chosen(d, creds, e.creds, e.count, old, table);
 }
 
-// So many rounds.
-fn run(
-    d: &[u16],
-    o: Layout,
-    creds: &[usize],
-    w: &[u16],
-    which: Which,
-    e: EntryAt,
-    times: usize,
-    table: &mut [u8],
-)
+// 64 rounds.
+fn run(d: &[u16], o: Layout, creds: &[usize], w: &[u16], which: Which, e: EntryAt, table: &mut [u8])
     requires { ⌜ Sources (now d) o (now creds) (now w) which e × (length (now table) ≡ o .atoms) ⌝ }
-    ensures { λ _. ⌜ now (table .exit) ≡ rounds (joinedAt (now (d .entry)) o (now (w .entry)) which e) times (now (table .entry)) ⌝ }
+    ensures { λ _. ⌜ now (table .exit) ≡ rounds (joinedAt (now (d .entry)) o (now (w .entry)) which e) 64 (now (table .entry)) ⌝ }
 {
     let mut old = [0u8; 64];
     let n = table.len();
-    let mut left = times;
+    let mut left = 64usize;
     while 0 < left {
         one_round(d, o, creds, w, which, e, &mut old[..n], table);
         left -= 1;
@@ -238,29 +223,6 @@ fn none() -> [u8; 64]
     ensures { λ r. ⌜ r ≡ replicate 64 0 ⌝ }
 {
     [0u8; 64]
-}
-
-// Whether the new table has atom a and the old one lacks it.
-fn is_new(old: &[u8], new: &[u8], a: usize) -> bool
-    requires { ⌜ (a < length (now old)) × (length (now new) ≡ length (now old)) ⌝ }
-    ensures { λ r. ⌜ r ≡ (has (now (new .entry)) a and not (has (now (old .entry)) a)) ⌝ }
-{
-    both(is_there(new, a), !is_there(old, a))
-}
-
-// Whether the new table has an atom that the old one lacks.
-fn grows(old: &[u8], new: &[u8]) -> bool
-    requires { ⌜ length (now new) ≡ length (now old) ⌝ }
-    ensures { λ r. ⌜ r ≡ any (λ a. has (now (new .entry)) a and not (has (now (old .entry)) a)) (below (length (now (old .entry)))) ⌝ }
-{
-    let mut left = old.len();
-    while 0 < left {
-        left -= 1;
-        if is_new(old, new, left) {
-            return true;
-        }
-    }
-    false
 }
 
 // The truth of two operands joined by the word x: 258 is and, 259 or.
@@ -311,36 +273,8 @@ fn truth_at(s: &[u16], at: usize, deep: usize, table: &[u8]) -> Truth
     }
 }
 
-// 64 rounds; and whether one more would still add an atom, which is tried on a second table.
-fn settle(
-    d: &[u16],
-    o: Layout,
-    creds: &[usize],
-    w: &[u16],
-    which: Which,
-    e: EntryAt,
-    table: &mut [u8],
-    more: &mut [u8],
-) -> bool
-    requires { ⌜ Sources (now d) o (now creds) (now w) which e × (length (now table) ≡ o .atoms) × (length (now more) ≡ o .atoms) ⌝ }
-    ensures { λ r. ⌜ (now (table .exit) ≡ rounds (joinedAt (now (d .entry)) o (now (w .entry)) which e) 64 (now (table .entry)))
-        × (r ≡ grown (joinedAt (now (d .entry)) o (now (w .entry)) which e) (now (table .entry))) ⌝ }
-{
-    run(d, o, creds, w, which, e, 64, table);
-    copy(table, more);
-    run(d, o, creds, w, which, e, 1, more);
-    grows(table, more)
-}
-
-// A truth as an answer.
-fn yes_or_no(b: bool) -> Answer
-    ensures { λ r. ⌜ r ≡ asAnswer false b ⌝ }
-{
-    if b { Answer::Yes } else { Answer::No }
-}
-
-// The answer of the entry at p in a policy; or that 64 rounds were not enough.
-pub fn answer_at(d: &[u16], o: Layout, creds: &[usize], w: &[u16], which: Which, p: usize) -> Answer
+// The answer of the entry at p in a policy.
+pub fn answer_at(d: &[u16], o: Layout, creds: &[usize], w: &[u16], which: Which, p: usize) -> bool
     requires { ⌜ Ready (now d) o (now creds) (now w) which × EntryFits (o .atoms) (o .ncreds) (now d) p ⌝ }
     ensures { λ r. ⌜ r ≡ answerOf (now (d .entry)) o (now (w .entry)) which p ⌝ }
 {
@@ -348,26 +282,19 @@ pub fn answer_at(d: &[u16], o: Layout, creds: &[usize], w: &[u16], which: Which,
     let f = e.formula;
     let n = o.atoms;
     let mut table = none();
-    let mut more = none();
-    if settle(d, o, creds, w, which, e, &mut table[..n], &mut more[..n]) {
-        return Answer::Unsettled;
-    }
+    run(d, o, creds, w, which, e, &mut table[..n]);
     let v = truth_at(d, f, 16, &table[..n]);
-    yes_or_no(v.holds)
+    v.holds
 }
 
-// An answer as a word: 0, 1, or 2 where there is none.
-pub fn word_of(a: Answer) -> u16
-    ensures { λ r. ⌜ r ≡ wordOf a ⌝ }
+// An answer as a word.
+pub fn word_of(a: bool) -> u16
+    ensures { λ r. ⌜ r ≡ bit a ⌝ }
 {
-    match a {
-        Answer::No => 0,
-        Answer::Yes => 1,
-        Answer::Unsettled => 2,
-    }
+    if a { 1 } else { 0 }
 }
 
-// Writes probe i's answer in the dossier's own policy to the table, in its place. The answer is whether 64 rounds were enough.
+// Writes probe i's answer in the dossier's own policy to the table, in its place.
 fn answer_probe(
     d: &[u16],
     o: Layout,
@@ -376,20 +303,15 @@ fn answer_probe(
     w: &[u16],
     i: usize,
     table: &mut [u16],
-) -> bool
+)
     requires { ⌜ Ready (now d) o (now creds) (now w) Own × Starts (entry (o .atoms) (o .ncreds) .next (now d)) (o .probes) (o .nprobes) (now probes) × (i < o .nprobes) × (i < length (now table)) ⌝ }
-    ensures { λ r. ⌜ (r ≡ true) × (now (table .exit) ≡ set (now (table .entry)) i (answerWord (now (d .entry)) o i)) ⌝ }
+    ensures { λ _. ⌜ now (table .exit) ≡ set (now (table .entry)) i (answerWord (now (d .entry)) o i) ⌝ }
 {
     let a = answer_at(d, o, creds, w, Which::Own, probes[i]);
-    let x = word_of(a);
-    if x == 2 {
-        return false;
-    }
-    table[i] = x;
-    true
+    table[i] = word_of(a);
 }
 
-// Every probe's answer in the dossier's own policy, 0 or 1, from the table's start; the words beyond stay. The answer is whether 64 rounds were enough each time.
+// Every probe's answer in the dossier's own policy, 0 or 1, from the table's start; the words beyond stay.
 pub fn answers(
     d: &[u16],
     o: Layout,
@@ -397,17 +319,14 @@ pub fn answers(
     probes: &[usize],
     w: &[u16],
     table: &mut [u16],
-) -> bool
+)
     requires { ⌜ Ready (now d) o (now creds) (now w) Own × Starts (entry (o .atoms) (o .ncreds) .next (now d)) (o .probes) (o .nprobes) (now probes) × (o .nprobes ≤ length (now table)) ⌝ }
-    ensures { λ r. ⌜ (r ≡ true) × (now (table .exit) ≡ filled (answerWord (now (d .entry)) o) (o .nprobes) (now (table .entry))) ⌝ }
+    ensures { λ _. ⌜ now (table .exit) ≡ filled (answerWord (now (d .entry)) o) (o .nprobes) (now (table .entry)) ⌝ }
 {
     let n = o.nprobes;
     let mut i = 0;
     while i < n {
-        if !answer_probe(d, o, creds, probes, w, i, table) {
-            return false;
-        }
+        answer_probe(d, o, creds, probes, w, i, table);
         i += 1;
     }
-    true
 }

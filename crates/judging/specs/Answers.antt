@@ -1,5 +1,5 @@
 -- The answers entry: "writes every probe's answer, 0 or 1, one word each, into a lent table and replies with the count; words beyond stay".
--- "It refuses by the dossier's form, then 18, then 19; each refusal leaves the table untouched." (19 is never given: `answer-sure` of evaluation.)
+-- It refuses by the dossier's form, then 18; "each refusal leaves the table untouched".
 use Prim.Native.Nat.{ℕ}
 use mathlib.Core.List.{List}
 use lib.Dec.{leb}

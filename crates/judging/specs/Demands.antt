@@ -30,7 +30,7 @@ pub record Demand1 : Type 0 where
   pub only : (d c : List ℕ) (r : Reply) (us : List ℕ) → Row d c r us → (r ≡ judgeOf d c) × (us ≡ shownOf d c r)
   -- its number, if it has one, is in the table
   pub number : (d c : List ℕ) (k : ℕ) → numberOf (judgeOf d c .verdict) ≡ some k → (1 ≤ k) × (k ≤ 17)
-  -- and so for the answers entry: 19 is never given
+  -- and so for the answers entry
   pub answersRow : (d t : List ℕ) → AnswersRow d t (answersOf d t) (partShown d (answersOf d t)) (tableAfter d t)
   pub answersOnly : (d t : List ℕ) (r : Answered) (us u : List ℕ) → AnswersRow d t r us u → (r ≡ answersOf d t) × (us ≡ partShown d r) × (u ≡ tableAfter d t)
   pub answersNumber : (d t : List ℕ) (k p w : ℕ) → answersOf d t ≡ Refused k p w → (1 ≤ k) × (k ≤ 18)

@@ -68,7 +68,6 @@ pub record NoSlack : Type 0 where
   -- evaluation
   pub answerAt : OneReply evaluation-answer-at.Post
   pub wordOf : OneReply evaluation-word-of.Post
-  pub answered : OneReply evaluation-answers.Post
   pub answeredTable : OneTable (λ e. e .1 .1 .1 .1 .1 .0) evaluation-answers.Post
   -- certificate, dossier
   pub certificate : OneReply certificate-certificate.Post

@@ -2,10 +2,7 @@
 use Prim.Native.Nat.{ℕ, _-_, _<_, _≤_}
 use mathlib.Core.Path.{_≡_, refl, sym, ap, _∙_}
 use mathlib.Core.Bool.{Bool, true, false, not}
-use mathlib.Core.List.{List, [], _∷_}
-use mathlib.Core.Logic.{inl, inr}
-use types.Run.{OneOf}
-use denote.Enum.Declared.{tagOf}
+use mathlib.Core.List.{List}
 use mathlib.Core.Option.{Option, none, some}
 use native.Mathlib.Omega.{arith}
 use lib.ListN.{length, getD}
@@ -28,16 +25,12 @@ use Rattle.reply.specs.Answer.{accepted}
 use Rattle.reply.specs.declared.Reply.{Reply}
 use Rattle.reply.specs.declared.Paper.the-variants as paper
 use Rattle.reply.specs.declared.Verdict.the-variants as said
-use Rattle.evaluation.specs.Which.{Ready, policyAt}
-use Rattle.evaluation.specs.Answer.{answerOf, asAnswer, wordOf}
-use Rattle.evaluation.specs.declared.Answer.{Answer}
-use Rattle.evaluation.specs.declared.Answer.the-variants.{No, Yes, Unsettled}
+use Rattle.evaluation.specs.Which.{policyAt}
+use Rattle.evaluation.specs.Answer.{answerOf}
 use Rattle.evaluation.specs.declared.Which.the-variants.{Tried}
-use Rattle.evaluation.proofs.Entry.{answer-sure}
 use Rattle.lines.specs.Ready.{ProbeStarts}
-use Rattle.verdict.specs.Told.{showing, replyAt, asFault, faultAt}
+use Rattle.verdict.specs.Told.{showing, replyAt, asFault}
 use Rattle.verdict.specs.declared.Fault.{Fault}
-use Rattle.verdict.proofs.Fault.{the-type}
 use Rattle.verdict.specs.declared.Fault.the-variants as fault
 use Rattle.verdict.proofs.Lowest.{lowest-below}
 
@@ -46,26 +39,11 @@ use Rattle.verdict.proofs.Lowest.{lowest-below}
 found : Fault → Option ℕ
 found fault.Nowhere = none
 found (fault.At j) = some j
-found fault.Unsettled = none
-
-kind : Fault → ℕ
-kind fault.Nowhere = 0
-kind (fault.At j) = 1
-kind fault.Unsettled = 2
 
 found-back : (x : Option ℕ) → found (asFault x) ≡ x
 unfolding asFault found
 found-back none = refl
 found-back (some j) = refl
-
-settled : (x : Option ℕ) → kind (asFault x) ≡ 2 → ⊥
-unfolding asFault kind
-settled none e = omega arith
-settled (some j) e = omega arith
-
-pub fault-settled : (x : Option ℕ) {f : Fault} → f ≡ asFault x → f ≡ fault.Unsettled → ⊥
-unfolding kind
-fault-settled x e h = settled x (ap kind (sym e ∙ h))
 
 module _ {x : Option ℕ} {f : Fault} (e : f ≡ asFault x) where
   pub fault-at : {j : ℕ} → f ≡ fault.At j → x ≡ some j
@@ -75,30 +53,6 @@ module _ {x : Option ℕ} {f : Fault} (e : f ≡ asFault x) where
   pub fault-none : f ≡ fault.Nowhere → x ≡ none
   unfolding found
   fault-none h = sym (found-back x) ∙ ap found (sym e ∙ h)
-
--- what one test answers: nowhere, or else that number
-module _ (b : Bool) (j : ℕ) {f : Fault} (e : f ≡ faultAt b j) where
-  pub test-passed : f ≡ fault.Nowhere → b ≡ true
-  unfolding faultAt kind
-  test-passed h = go b (sym e ∙ h)
-    where
-      go : (c : Bool) → faultAt c j ≡ fault.Nowhere → c ≡ true
-      go true g = refl
-      go false g = absurd (let z : _≡_ {A = ℕ} 1 0 = ap kind g in omega arith)
-
-  pub test-failed : OneOf (1 ∷ 2 ∷ []) (tagOf the-type f) → b ≡ false
-  unfolding faultAt
-  test-failed h = go b (ap (tagOf the-type) e) h
-    where
-      go : (c : Bool) → tagOf the-type f ≡ tagOf the-type (faultAt c j) → OneOf (1 ∷ 2 ∷ []) (tagOf the-type f) → c ≡ false
-      go true g (inl x) = absurd (omega (arith, g))
-      go true g (inr x) = absurd (omega (arith, g))
-      go false g x = refl
-
-  -- so the search ends here
-  pub failed-here : {x : Option ℕ} → b ≡ false → x ≡ some j → f ≡ asFault x
-  unfolding faultAt asFault
-  failed-here g h = e ∙ rw (g, h)
 
 -- ---- a witness
 
@@ -131,38 +85,24 @@ module _ (d : List ℕ) (o : Layout) (w : List ℕ) (k : ℕ) where
         let out : lowest (probeAgrees D (many (credential (o .atoms)) w 2 k)) 0 (length (D .probes)) ≡ none = ap (λ (n : ℕ). lowest (probeAgrees D (many (credential (o .atoms)) w 2 k)) 0 n) probes-many ∙ fault-none e h in
         g ∙ ap (λ (x : Option ℕ). replyAt d o w k (decide x probeDiffers (agree (answer D (tried D (many (credential (o .atoms)) w 2 k)) (D .secret)) (not (aim D))) opaque secretTrue)) (sym out)
 
-  -- the secret: its answer is No, or Yes
-  by-secret : {a : Answer} {r : Reply} (b : Bool) → a ≡ asAnswer false b → ((a ≡ No) × (r ≡ accepted said.Opaque)) → r ≡ replyAt d o w k (choose (agree b (not (aim (dossierAt d o)))) opaque secretTrue)
-  unfolding asAnswer replyAt choose agree aim
-  by-secret true e (h, g) = absurd (let z : _≡_ {A = ℕ} 1 0 = ap wordOf (sym e ∙ h) in omega arith)
-  by-secret false e (h, g) = g
+  -- the secret, by its answer
+  by-secret : (b : Bool) → choose b (showing 15 paper.Dossier thing.Entry d (o .secret)) (accepted said.Opaque) ≡ replyAt d o w k (choose (agree b (not (aim (dossierAt d o)))) opaque secretTrue)
+  unfolding replyAt choose agree aim
+  by-secret true = refl
+  by-secret false = refl
 
-  by-secret-true : {a : Answer} {r : Reply} (b : Bool) → a ≡ asAnswer false b → ((a ≡ Yes) × (r ≡ showing 15 paper.Dossier thing.Entry d (o .secret))) → r ≡ replyAt d o w k (choose (agree b (not (aim (dossierAt d o)))) opaque secretTrue)
-  unfolding asAnswer replyAt choose agree aim
-  by-secret-true true e (h, g) = g
-  by-secret-true false e (h, g) = absurd (let z : _≡_ {A = ℕ} 0 1 = ap wordOf (sym e ∙ h) in omega arith)
+  module _ {b : Bool} (e : b ≡ answerOf d o w (Tried k) (o .secret)) {r : Reply} where
+    secret-told : r ≡ choose b (showing 15 paper.Dossier thing.Entry d (o .secret)) (accepted said.Opaque) → r ≡ replyAt d o w k (choose (agree (answer (dossierAt d o) (tried (dossierAt d o) (many (credential (o .atoms)) w 2 k)) (dossierAt d o .secret)) (not (aim (dossierAt d o)))) opaque secretTrue)
+    unfolding answerOf policyAt dossierAt
+    secret-told g = g ∙ by-secret b ∙ ap (λ (x : Bool). replyAt d o w k (choose (agree x (not (aim (dossierAt d o)))) opaque secretTrue)) e
 
-  unsettled-not : {a : Answer} (b : Bool) → a ≡ asAnswer false b → a ≡ Unsettled → ⊥
-  unfolding asAnswer
-  unsettled-not true e h = let z : _≡_ {A = ℕ} 1 2 = ap wordOf (sym e ∙ h) in omega arith
-  unsettled-not false e h = let z : _≡_ {A = ℕ} 0 2 = ap wordOf (sym e ∙ h) in omega arith
+    pub secret-yes : b ≡ true → r ≡ showing 15 paper.Dossier thing.Entry d (o .secret) → r ≡ replyAt d o w k (choose (agree (answer (dossierAt d o) (tried (dossierAt d o) (many (credential (o .atoms)) w 2 k)) (dossierAt d o .secret)) (not (aim (dossierAt d o)))) opaque secretTrue)
+    unfolding choose
+    secret-yes h g = secret-told (rw h g)
 
-  module _ (creds : List ℕ) (ready : Ready d o creds w (Tried k)) {a : Answer} (e : a ≡ answerOf d o w (Tried k) (o .secret)) where
-    told : a ≡ asAnswer false (answer (dossierAt d o) (tried (dossierAt d o) (many (credential (o .atoms)) w 2 k)) (dossierAt d o .secret))
-    unfolding policyAt dossierAt
-    told = e ∙ answer-sure d o creds w (Tried k) ready (o .secret) (ready .laid .secret)
-
-    abbrev Judged : Reply → Type 0
-    Judged r = r ≡ replyAt d o w k (choose (agree (answer (dossierAt d o) (tried (dossierAt d o) (many (credential (o .atoms)) w 2 k)) (dossierAt d o .secret)) (not (aim (dossierAt d o)))) opaque secretTrue)
-
-    pub secret-no : {r : Reply} → a ≡ No → r ≡ accepted said.Opaque → Judged r
-    secret-no h g = by-secret _ told (h, g)
-
-    pub secret-yes : {r : Reply} → a ≡ Yes → r ≡ showing 15 paper.Dossier thing.Entry d (o .secret) → Judged r
-    secret-yes h g = by-secret-true _ told (h, g)
-
-    pub secret-settled : a ≡ Unsettled → ⊥
-    secret-settled h = unsettled-not _ told h
+    pub secret-no : b ≡ false → r ≡ accepted said.Opaque → r ≡ replyAt d o w k (choose (agree (answer (dossierAt d o) (tried (dossierAt d o) (many (credential (o .atoms)) w 2 k)) (dossierAt d o .secret)) (not (aim (dossierAt d o)))) opaque secretTrue)
+    unfolding choose
+    secret-no h g = secret-told (rw h g)
 
 -- ---- a proof
 

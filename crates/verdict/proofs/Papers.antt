@@ -1,10 +1,11 @@
 -- What the promise says of a probe, of the secret and of a line, where the outcome speaks of them.
 use Prim.Native.Nat.{ℕ, zero, suc, _<_, _≤_}
-use mathlib.Core.Path.{_≡_, refl, sym, ap, _∙_}
+use mathlib.Core.Path.{_≡_, refl, sym, ap, ap₂, _∙_}
 use mathlib.Core.Bool.{Bool, true, false}
 use mathlib.Core.List.{List, _∷_}
 use mathlib.Core.Option.{Option}
 use native.Mathlib.Omega.{arith}
+use lib.Dec.{eqb}
 use lib.ListN.{getD, take}
 use Rattle.meaning.specs.Tests.{agree, named, choose, _is_}
 use Rattle.meaning.specs.Policy.{Policy}
@@ -28,28 +29,19 @@ use Rattle.reply.specs.declared.Paper.the-variants as paper
 use Rattle.reply.specs.declared.Verdict.the-variants as said
 use borrow.Author.Tests.{eq-eqb, ne-eqb}
 use Rattle.evaluation.specs.Which.{Ready, policyAt}
-use Rattle.evaluation.specs.Answer.{answerOf, answerWord, wordOf}
-use Rattle.evaluation.specs.declared.Answer.{Answer}
+use Rattle.evaluation.specs.Answer.{answerOf, answerWord}
 use Rattle.evaluation.specs.declared.Which.the-variants.{Tried}
-use Rattle.evaluation.proofs.Entry.{answer-sure, sure-word, bit-small}
 use Rattle.lines.specs.Ready.{ProbeStarts}
 use Rattle.verdict.specs.Told.{showing, Told}
 
 -- ---- a probe
 
-bits-agree : (a b : Bool) → bit a ≡ bit b → agree a b ≡ true
+bits-agree : (a b : Bool) → eqb (bit a) (bit b) ≡ agree a b
 unfolding agree
-bits-agree true true e = refl
-bits-agree true false e = absurd (omega arith)
-bits-agree false true e = absurd (omega arith)
-bits-agree false false e = refl
-
-bits-differ : (a b : Bool) → (bit a ≡ bit b → ⊥) → agree a b ≡ false
-unfolding agree
-bits-differ true true e = absurd (e refl)
-bits-differ true false e = refl
-bits-differ false true e = refl
-bits-differ false false e = absurd (e refl)
+bits-agree true true = refl
+bits-agree true false = refl
+bits-agree false true = refl
+bits-agree false false = refl
 
 module _ (d : List ℕ) (o : Layout) (creds probes told w : List ℕ) (k : ℕ) (ready : Ready d o creds w (Tried k)) (s : ProbeStarts d o probes) (t : Told d o told) (j : ℕ) (h : j < o .nprobes) where
   W : Policy
@@ -62,9 +54,9 @@ module _ (d : List ℕ) (o : Layout) (creds probes told w : List ℕ) (k : ℕ) 
   unfolding Fit
   probe-fits = rw (s .each j h) (ready .laid .probes j h)
 
-  tried-word : {x : ℕ} {a : Answer} → x ≡ wordOf a → a ≡ answerOf d o w (Tried k) (getD probes j 0) → x ≡ bit (answer (dossierAt d o) (tried (dossierAt d o) W) e)
-  unfolding policyAt Fit W e
-  tried-word {x} {a} u v = sure-word _ u (v ∙ ap (answerOf d o w (Tried k)) (s .each j h) ∙ answer-sure d o creds w (Tried k) ready _ (ready .laid .probes j h))
+  tried-answer : {a : Bool} → a ≡ answerOf d o w (Tried k) (getD probes j 0) → a ≡ answer (dossierAt d o) (tried (dossierAt d o) W) e
+  unfolding answerOf policyAt W e
+  tried-answer v = v ∙ ap (answerOf d o w (Tried k)) (s .each j h)
 
   own-word : getD told j 0 ≡ bit (answer (dossierAt d o) (policy (dossierAt d o)) e)
   unfolding answerWord e
@@ -74,17 +66,9 @@ module _ (d : List ℕ) (o : Layout) (creds probes told w : List ℕ) (k : ℕ) 
   unfolding probeAgrees named dossierAt W e
   agrees-at = ap (λ (x : Option Entry). named x (λ y. agree (answer (dossierAt d o) (tried (dossierAt d o) W) y) (answer (dossierAt d o) (policy (dossierAt d o)) y))) (many-at (entry (o .atoms) (o .ncreds)) d (o .probes) (o .nprobes) j h)
 
-  module _ {x : ℕ} {a : Answer} (u : x ≡ wordOf a) (v : a ≡ answerOf d o w (Tried k) (getD probes j 0)) where
-    pub probe-settled : x ≡ 2 → ⊥
-    probe-settled z = bit-small (answer (dossierAt d o) (tried (dossierAt d o) W) e) (sym (tried-word u v) ∙ z)
-
-    pub probe-alike : x ≡ getD told j 0 → probeAgrees (dossierAt d o) (many (credential (o .atoms)) w 2 k) j ≡ true
-    unfolding W
-    probe-alike z = agrees-at ∙ bits-agree _ _ (sym (tried-word u v) ∙ z ∙ own-word)
-
-    pub probe-otherwise : (x ≡ getD told j 0 → ⊥) → probeAgrees (dossierAt d o) (many (credential (o .atoms)) w 2 k) j ≡ false
-    unfolding W
-    probe-otherwise z = agrees-at ∙ bits-differ _ _ (λ q. z (tried-word u v ∙ q ∙ sym own-word))
+  pub probe-told : {x : ℕ} {a : Bool} → x ≡ bit a → a ≡ answerOf d o w (Tried k) (getD probes j 0) → eqb x (getD told j 0) ≡ probeAgrees (dossierAt d o) (many (credential (o .atoms)) w 2 k) j
+  unfolding W
+  probe-told u v = ap₂ eqb (u ∙ ap bit (tried-answer v)) own-word ∙ bits-agree _ _ ∙ sym agrees-at
 
 -- ---- a thing ends after it begins
 

@@ -6,7 +6,7 @@ use mathlib.Core.Option.{Option, none, some}
 use native.Mathlib.Omega.{arith}
 use lib.Dec.{ltb}
 use lib.ListN.{length, getD}
-use mathlib.Core.Bool.{Bool, true, false, not, false≢true}
+use mathlib.Core.Bool.{Bool, true, false}
 use borrow.Author.Tests.{ltb-true, ltb-false}
 use Rattle.meaning.specs.Tests.{at}
 use Rattle.meaning.specs.Papers.{Entry, policy, answer, witness, proof}
@@ -96,8 +96,3 @@ module _ (d : List ℕ) (o : Layout) (c : List ℕ) {proposal : Proposal} {k : �
   pub proof-judged : proposal ≡ Proof k → r ≡ replyAt d o c k (judge (dossierAt d o) (proof (many line c 2 k))) → r ≡ replyAt d o c (sizeOf proposal) (judge (dossierAt d o) (certificateAt (o .atoms) c proposal))
   unfolding certificateAt
   proof-judged e g = g ∙ ap (λ (p : Proposal). replyAt d o c (sizeOf p) (judge (dossierAt d o) (certificateAt (o .atoms) c p))) (sym e)
-
--- the answers were all given
-pub answered : (b : Bool) → b ≡ true → not b ≡ true → ⊥
-answered true e h = false≢true h
-answered false e h = false≢true e

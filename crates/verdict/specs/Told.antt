@@ -1,7 +1,6 @@
 -- The reply for an outcome, and what judging needs to have been found.
 use Prim.Native.Nat.{ℕ, _-_, _<_, _≤_}
 use mathlib.Core.Path.{_≡_}
-use mathlib.Core.Bool.{Bool, true, false}
 use mathlib.Core.List.{List}
 use mathlib.Core.Option.{Option, none, some}
 use lib.ListN.{length, getD}
@@ -44,11 +43,6 @@ sizeOf (Proof k) = k
 unfoldable pub asFault : Option ℕ → Fault
 asFault none = fault.Nowhere
 asFault (some j) = fault.At j
-
--- whether number j is at fault, by its test
-unfoldable pub faultAt : Bool → ℕ → Fault
-faultAt true j = fault.Nowhere
-faultAt false j = fault.At j
 
 -- a table that has the policy's answer to each probe
 pub record Told (d : List ℕ) (o : Layout) (told : List ℕ) : Type 0 where

@@ -1,5 +1,4 @@
 // The judgement of two sound papers.
-use evaluation::Answer;
 use evaluation::Which;
 use promise::Layout;
 use promise::Proposal;
@@ -25,16 +24,15 @@ ghost use Rattle.lines.specs.Ready.{ProbeStarts};
 ghost use Rattle.promise.specs.Thing.{nextOf, okOf};
 ghost use Rattle.evaluation.specs.Which.{Ready};
 ghost use Rattle.evaluation.specs.declared.Which.the-variants.{Tried};
-ghost use Rattle.reply.specs.Answer.{accepted, refused};
+ghost use Rattle.reply.specs.Answer.{accepted};
 ghost use Rattle.reply.specs.declared.Paper.the-variants as paper;
 ghost use Rattle.reply.specs.declared.Verdict.the-variants as verdict;
-ghost use Rattle.verdict.specs.Told.{showing, replyAt, sizeOf, asFault, faultAt, Told};
+ghost use Rattle.verdict.specs.Told.{showing, replyAt, sizeOf, asFault, Told};
 
-// The lowest number at fault, if there is one; or that 64 rounds were not enough.
+// The lowest number at fault, if there is one.
 pub enum Fault {
     Nowhere,
     At(usize),
-    Unsettled,
 }
 
 // An acceptance.
@@ -44,18 +42,6 @@ fn accepting(verdict: Verdict) -> Reply
     Reply {
         verdict: verdict,
         paper: Paper::Certificate,
-        place: 0,
-        count: 0,
-    }
-}
-
-// 19: after 64 rounds one more would still add an atom.
-fn unsettled() -> Reply
-    ensures { λ r. ⌜ r ≡ refused 19 paper.Dossier 0 0 ⌝ }
-{
-    Reply {
-        verdict: Verdict::Refused(19),
-        paper: Paper::Dossier,
         place: 0,
         count: 0,
     }
@@ -76,7 +62,7 @@ fn refusing(number: u16, paper: Paper, thing: Thing, s: &[u16], p: usize) -> Rep
 }
 
 // Whether the policy tried answers probe i as the dossier's does, which `told` has.
-fn probe_fault(
+fn probe_agrees(
     d: &[u16],
     o: Layout,
     creds: &[usize],
@@ -85,19 +71,12 @@ fn probe_fault(
     w: &[u16],
     k: usize,
     i: usize,
-) -> Fault
+) -> bool
     requires { ⌜ Ready (now d) o (now creds) (now w) (Tried k) × ProbeStarts (now d) o (now probes) × Told (now d) o (now told) × (i < o .nprobes) ⌝ }
-    ensures { λ r. ⌜ r ≡ faultAt (meant.probeAgrees (dossierAt (now (d .entry)) o) (many (credential (o .atoms)) (now (w .entry)) 2 k) i) i ⌝ }
+    ensures { λ r. ⌜ r ≡ meant.probeAgrees (dossierAt (now (d .entry)) o) (many (credential (o .atoms)) (now (w .entry)) 2 k) i ⌝ }
 {
     let a = evaluation::answer_at(d, o, creds, w, Which::Tried(k), probes[i]);
-    let x = evaluation::word_of(a);
-    if x == 2 {
-        return Fault::Unsettled;
-    }
-    if x != told[i] {
-        return Fault::At(i);
-    }
-    Fault::Nowhere
+    evaluation::word_of(a) == told[i]
 }
 
 // The lowest probe that the policy tried does not answer as the dossier's does.
@@ -116,10 +95,9 @@ fn first_differing(
     let n = o.nprobes;
     let mut i = 0;
     while i < n {
-        let f = probe_fault(d, o, creds, probes, told, w, k, i);
-        let Fault::Nowhere = f else {
-            return f;
-        };
+        if !probe_agrees(d, o, creds, probes, told, w, k, i) {
+            return Fault::At(i);
+        }
         i += 1;
     }
     Fault::Nowhere
@@ -133,10 +111,10 @@ fn judge_secret(d: &[u16], o: Layout, creds: &[usize], w: &[u16], k: usize) -> R
         meant.opaque meant.secretTrue) ⌝ }
 {
     let p = o.secret;
-    match evaluation::answer_at(d, o, creds, w, Which::Tried(k), p) {
-        Answer::No => accepting(Verdict::Opaque),
-        Answer::Yes => refusing(15, Paper::Dossier, Thing::Entry, d, p),
-        Answer::Unsettled => unsettled(),
+    if evaluation::answer_at(d, o, creds, w, Which::Tried(k), p) {
+        refusing(15, Paper::Dossier, Thing::Entry, d, p)
+    } else {
+        accepting(Verdict::Opaque)
     }
 }
 
@@ -154,7 +132,6 @@ fn judge_witness(
     ensures { λ r. ⌜ r ≡ replyAt (now (d .entry)) o (now (w .entry)) k (meant.judge (dossierAt (now (d .entry)) o) (papers.witness (many (credential (o .atoms)) (now (w .entry)) 2 k))) ⌝ }
 {
     match first_differing(d, o, creds, probes, told, w, k) {
-        Fault::Unsettled => unsettled(),
         Fault::At(j) => refusing(14, Paper::Dossier, Thing::Entry, d, probes[j]),
         Fault::Nowhere => judge_secret(d, o, creds, w, k),
     }
@@ -214,7 +191,6 @@ fn judge_proof(
     ensures { λ r. ⌜ r ≡ replyAt (now (d .entry)) o (now (s .entry)) k (meant.judge (dossierAt (now (d .entry)) o) (papers.proof (many line (now (s .entry)) 2 k))) ⌝ }
 {
     match first_failing(d, o, clauses, creds, probes, told, s, lines, k) {
-        Fault::Unsettled => unsettled(),
         Fault::At(j) => refusing(16, Paper::Certificate, Thing::Line, s, lines[j]),
         Fault::Nowhere => judge_last(s, lines[k - 1]),
     }
@@ -251,9 +227,7 @@ pub fn judge_sound(d: &[u16], o: Layout, c: &[u16], proposal: Proposal) -> Reply
     let mut told = blank;
     promise::starts(d, o.creds, o.ncreds, Thing::Credential, &mut creds);
     promise::starts(d, o.probes, o.nprobes, Thing::Entry, &mut probes);
-    if !evaluation::answers(d, o, &creds, &probes, c, &mut told) {
-        return unsettled();
-    }
+    evaluation::answers(d, o, &creds, &probes, c, &mut told);
     match proposal {
         Proposal::Witness(k) => judge_witness(d, o, &creds, &probes, &told, c, k),
         Proposal::Proof(k) => judge_lines(d, o, &creds, &probes, &told, c, k),

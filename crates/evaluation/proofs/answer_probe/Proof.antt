@@ -1,7 +1,7 @@
--- `evaluation::answer_probe` meets its contract: the word is never 2.
-use Rattle.evaluation.proofs.Entry.{probe-word, probe-fits, word-sure}
+-- `evaluation::answer_probe` meets its contract.
+use Rattle.evaluation.proofs.Entry.{probe-fits, probe-word}
 use lib.ListN.{set}
-use mathlib.Core.Path.{refl, sym, ap, _∙_}
+use mathlib.Core.Path.{ap}
 use borrow.Author.Needs.{needs}
 use Rattle.evaluation.proofs.answer_probe.Statement.{statement}
 use Rattle.evaluation.proofs.answer_probe.Tie as tie
@@ -21,12 +21,6 @@ answer-at-requires c κs =
 word-of-requires : tie.Need-word-of-requires
 word-of-requires c κs = search needs
 
-returns : tie.Need-returns
-returns c =
-    let start = c .before .before .before .before .before .before .before .before .before in
-    let a = start .args in
-    absurd (word-sure (a .d .now) (a .o) (a .i) (sym (probe-word (a .d .now) (a .o) (a .creds .now) (a .probes .now) (a .w .now) (start .pre .0) (start .pre .1) (a .i) (start .pre .2) (c .before .word-of .ensures) (c .before .before .answer-at .ensures)) ∙ c .if1 .taken))
-
 mul-table : tie.Need-mul-table
 mul-table c = search needs
 
@@ -36,11 +30,11 @@ slice-write-table c = search needs
 same-length : tie.Need-same-length
 same-length c = search needs
 
-returns-2 : tie.Need-returns-2
-returns-2 c =
-    let start = c .before .before .before .before .before .before .before .before .before in
+returns : tie.Need-returns
+returns c =
+    let start = c .before .before .before .before .before .before .before .before in
     let a = start .args in
-    (refl, ap (set (a .table .now) (a .i)) (probe-word (a .d .now) (a .o) (a .creds .now) (a .probes .now) (a .w .now) (start .pre .0) (start .pre .1) (a .i) (start .pre .2) (c .before .word-of .ensures) (c .before .before .answer-at .ensures)))
+    ap (set (a .table .now) (a .i)) (probe-word (a .d .now) (a .o) (a .probes .now) (a .w .now) (start .pre .1) (a .i) (start .pre .2) (c .word-of .ensures) (c .before .answer-at .ensures))
 
 pub answer-probe-spec : {M : Type 1} → statement M
 answer-probe-spec =
@@ -50,8 +44,7 @@ answer-probe-spec =
     shared-slice-read-answer-at
     answer-at-requires
     word-of-requires
-    returns
     mul-table
     slice-write-table
     same-length
-    returns-2)
+    returns)

@@ -3,9 +3,7 @@ use Prim.Native.Nat.{ℕ, _≤_, _<_, _-_}
 use Rattle.evaluation.specs.Answer.{answerWord}
 use Rattle.promise.proofs.Place.{filled-none, filled-on, filled-length}
 use Rattle.promise.specs.Place.{filled}
-use Rattle.meaning.proofs.Tests.{clash}
 use borrow.Author.Needs.{needs}
-use borrow.Author.Tests.{not-true}
 use lib.ListN.{length}
 use mathlib.Core.Path.{_≡_, refl, ap, _∙_}
 use native.Mathlib.Omega.{arith}
@@ -30,12 +28,6 @@ answer-probe-requires c κs =
     let e = ap length (l .inv .1) ∙ filled-length (answerWord (a .d .now) (a .o)) (l .i) (a .table .now) (omega (arith, start .pre .2)) in
     (start .pre .0, start .pre .1, h, omega (arith, e, start .pre .2))
 
-same-length : tie.Need-same-length Inv-loop μ-loop
-same-length c = c .before .before .before .answer-probe .kept .1 .1 .1 .1 .1 .1 .0 ∙ ap length (c .before .before .before .before .before .before .loop .inv .1) ∙ filled-length _ _ _ (omega (arith, c .before .before .before .before .before .before .before .before .before .before .before .before .pre .2))
-
-returns : tie.Need-returns Inv-loop μ-loop
-returns c = absurd (clash (c .before .before .before .answer-probe .ensures .0) (not-true _ (c .if1 .taken)))
-
 add-i : tie.Need-add-i Inv-loop μ-loop
 add-i c = search needs
 
@@ -44,20 +36,20 @@ loop-less c = search needs
 
 loop-again : tie.Need-loop-again Inv-loop μ-loop
 loop-again c =
-    let start = c .before .before .before .before .before .before .before .before .before .before .before .before in
-    let turn = c .before .before .before .before .before .before .loop in
+    let start = c .before .before .before .before .before .before .before .before .before .before .before in
+    let turn = c .before .before .before .before .before .loop in
     let a = start .args in
     let h : turn .i < length (a .table .now) = omega (arith, start .pre .2) in
-    (search needs, c .before .before .before .answer-probe .ensures .1 ∙ filled-on (answerWord (a .d .now) (a .o)) (turn .i) (a .table .now) (turn .inv .1) refl h)
+    (search needs, c .before .before .answer-probe .ensures ∙ filled-on (answerWord (a .d .now) (a .o)) (turn .i) (a .table .now) (turn .inv .1) refl h)
 
-same-length-2 : tie.Need-same-length-2 Inv-loop μ-loop
-same-length-2 c = ap length (c .before .loop .inv .1) ∙ filled-length _ _ _ (omega (arith, c .before .before .before .before .before .before .before .pre .2))
+same-length : tie.Need-same-length Inv-loop μ-loop
+same-length c = ap length (c .before .loop .inv .1) ∙ filled-length _ _ _ (omega (arith, c .before .before .before .before .before .before .before .pre .2))
 
-returns-2 : tie.Need-returns-2 Inv-loop μ-loop
-returns-2 c =
+returns : tie.Need-returns Inv-loop μ-loop
+returns c =
     let a = c .before .before .before .before .before .before .before .args in
     let e : c .before .loop .i ≡ a .o .nprobes = omega arith in
-    (refl, c .before .loop .inv .1 ∙ ap (λ (n : ℕ). filled (answerWord (a .d .now) (a .o)) n (a .table .now)) e)
+    c .before .loop .inv .1 ∙ ap (λ (n : ℕ). filled (answerWord (a .d .now) (a .o)) n (a .table .now)) e
 
 pub answers-spec : {M : Type 1} → statement M
 answers-spec =
@@ -67,10 +59,8 @@ answers-spec =
     μ-loop
     loop-holds
     answer-probe-requires
-    same-length
-    returns
     add-i
     loop-less
     loop-again
-    same-length-2
-    returns-2)
+    same-length
+    returns)

@@ -12,10 +12,10 @@ use Rattle.evaluation.proofs.run.Statement.{statement}
 use Rattle.evaluation.proofs.run.Tie as tie
 
 abbrev Inv-loop : tie.InvT-loop
-Inv-loop d o creds w which e times table₀ old₀ n left₀ table old left = (length table ≡ length table₀) × (length old ≡ 64) × (rounds (joinedAt d o w which e) times table₀ ≡ rounds (joinedAt d o w which e) left table)
+Inv-loop d o creds w which e table₀ old₀ n left₀ table old left = (length table ≡ length table₀) × (length old ≡ 64) × (rounds (joinedAt d o w which e) 64 table₀ ≡ rounds (joinedAt d o w which e) left table)
 
 abbrev μ-loop : tie.MeasureT-loop
-μ-loop d o creds w which e times table₀ old₀ n left₀ table old left = left
+μ-loop d o creds w which e table₀ old₀ n left₀ table old left = left
 
 loop-holds : tie.Need-loop-holds Inv-loop μ-loop
 loop-holds c = (refl, refl, refl)

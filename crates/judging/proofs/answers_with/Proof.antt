@@ -5,24 +5,24 @@ use Rattle.judging.proofs.Sound.{sound-laid}
 use Rattle.lines.proofs.Tables.{creds-filled, probes-filled}
 use Rattle.verdict.proofs.Tables.{creds-fit, probes-fit}
 use borrow.Author.Needs.{needs}
-use mathlib.Core.Bool.{false≢true}
-use mathlib.Core.Path.{sym, _∙_}
 use native.Mathlib.Omega.{arith}
 use Rattle.judging.proofs.answers_with.Statement.{statement}
 use Rattle.judging.proofs.answers_with.Tie as tie
 
 returns : tie.Need-returns
 returns c =
-    let a = c .before .before .before .args in
-    answers-short (a .d .now) (a .table .now) (a .o) (c .before .before .before .pre) (c .if1 .taken)
+    let start = c .before .before .before in
+    let a = start .args in
+    answers-short (a .d .now) (a .table .now) (a .o) (start .pre) (c .if1 .taken)
 
 slice-aggregate-starts : tie.Need-slice-aggregate-starts
 slice-aggregate-starts c = search needs
 
 starts-requires : tie.Need-starts-requires
 starts-requires c κs =
-    let a = c .before .before .before .before .args in
-    let l = sound-laid (a .d .now) (a .o) (c .before .before .before .before .pre) in
+    let start = c .before .before .before .before in
+    let a = start .args in
+    let l = sound-laid (a .d .now) (a .o) (start .pre) in
     (creds-fit (a .d .now) (a .o) l, l .fewCreds)
 
 slice-aggregate-starts-2 : tie.Need-slice-aggregate-starts-2
@@ -30,8 +30,9 @@ slice-aggregate-starts-2 c = search needs
 
 starts-requires-2 : tie.Need-starts-requires-2
 starts-requires-2 c κs =
-    let a = c .before .before .before .before .before .before .before .args in
-    let l = sound-laid (a .d .now) (a .o) (c .before .before .before .before .before .before .before .pre) in
+    let start = c .before .before .before .before .before .before .before in
+    let a = start .args in
+    let l = sound-laid (a .d .now) (a .o) (start .pre) in
     (probes-fit (a .d .now) (a .o) l, l .few)
 
 slice-aggregate-answers : tie.Need-slice-aggregate-answers
@@ -43,8 +44,9 @@ slice-aggregate-answers-2 c = search needs
 answers-requires : tie.Need-answers-requires
 unfolding WhichFits
 answers-requires c κs =
-    let a = c .before .before .before .before .before .before .before .before .before .before .before .before .args in
-    let l = sound-laid (a .d .now) (a .o) (c .before .before .before .before .before .before .before .before .before .before .before .before .pre) in
+    let start = c .before .before .before .before .before .before .before .before .before .before .before .before in
+    let a = start .args in
+    let l = sound-laid (a .d .now) (a .o) (start .pre) in
     (record { laid = l; starts = creds-filled (a .d .now) (a .o) _ (c .before .before .before .before .before .before .before .starts .ensures) (l .fewCreds); witness = tt }, probes-filled (a .d .now) (a .o) _ (c .before .before .before .before .starts2 .ensures) (l .few), omega (arith, c .before .before .before .before .before .before .before .before .before .if1 .left))
 
 same-length : tie.Need-same-length
@@ -52,16 +54,9 @@ same-length c = search needs
 
 returns-2 : tie.Need-returns-2
 returns-2 c =
-    let a = c .before .before .before .before .before .before .before .before .before .before .before .before .before .before .before .before .args in
-    answers-given (a .d .now) (a .table .now) (a .o) (c .before .before .before .before .before .before .before .before .before .before .before .before .before .before .before .before .pre) (omega (arith, c .before .before .before .before .before .before .before .before .before .before .before .before .before .if1 .left)) (c .before .before .before .answers .ensures .1)
-
-same-length-2 : tie.Need-same-length-2
-same-length-2 c = search needs
-
-returns-3 : tie.Need-returns-3
-returns-3 c =
-    let a = c .before .before .before .before .before .before .before .before .before .before .before .before .before .before .before .before .args in
-    absurd (false≢true (sym (c .if2 .left) ∙ c .before .before .before .answers .ensures .0))
+    let start = c .before .before .before .before .before .before .before .before .before .before .before .before .before .before .before in
+    let a = start .args in
+    answers-given (a .d .now) (a .table .now) (a .o) (start .pre) (omega (arith, c .before .before .before .before .before .before .before .before .before .before .before .before .if1 .left)) (c .before .before .answers .ensures)
 
 pub answers-with-spec : {M : Type 1} → statement M
 answers-with-spec =
@@ -76,6 +71,4 @@ answers-with-spec =
     slice-aggregate-answers-2
     answers-requires
     same-length
-    returns-2
-    same-length-2
-    returns-3)
+    returns-2)

@@ -5,10 +5,10 @@ use Rattle.promise.specs.Clause.{credential}
 use Rattle.promise.specs.Layout.{dossierAt}
 use Rattle.promise.specs.Place.{many}
 use Rattle.verdict.proofs.Lowest.{From, from-start, from-next, from-fault, from-end}
-use Rattle.verdict.proofs.Outcome.{test-passed, test-failed, failed-here}
 use Rattle.verdict.specs.Told.{asFault}
 use borrow.Author.Needs.{needs}
-use mathlib.Core.Path.{sym, ap}
+use borrow.Author.Tests.{not-true, not-false}
+use mathlib.Core.Path.{sym, ap, _∙_}
 use native.Mathlib.Omega.{arith}
 use Rattle.verdict.proofs.first_differing.Statement.{statement}
 use Rattle.verdict.proofs.first_differing.Tie as tie
@@ -24,33 +24,27 @@ loop-holds c =
     let a = c .before .before .before .before .before .args in
     from-start (probeAgrees (dossierAt (a .d .now) (a .o)) (many (credential (a .o .atoms)) (a .w .now) 2 (a .k))) (a .o .nprobes)
 
-probe-fault-requires : tie.Need-probe-fault-requires Inv-loop μ-loop
-probe-fault-requires c κs =
+probe-agrees-requires : tie.Need-probe-agrees-requires Inv-loop μ-loop
+probe-agrees-requires c κs =
     let start = c .before .before .before .before .before .before .before in
     (start .pre .0, start .pre .1, start .pre .2, c .loop-test .taken)
 
-enum-told : tie.Need-enum-told Inv-loop μ-loop
-enum-told c = search needs
-
 returns : tie.Need-returns Inv-loop μ-loop
+unfolding asFault
 returns c =
-    let turn = c .before .before .before .loop in
     let a = c .before .before .before .before .before .before .before .before .before .args in
-    let e = c .before .probe-fault .ensures in
-    let f = test-failed _ _ e (c .match .keys2) in
-    failed-here _ _ e f (from-fault (probeAgrees (dossierAt (a .d .now) (a .o)) (many (credential (a .o .atoms)) (a .w .now) 2 (a .k))) (a .o .nprobes) (turn .i) (turn .inv) (c .before .before .loop-test .taken) f)
+    sym (ap asFault (from-fault (probeAgrees (dossierAt (a .d .now) (a .o)) (many (credential (a .o .atoms)) (a .w .now) 2 (a .k))) (a .o .nprobes) (c .before .before .before .loop .i) (c .before .before .before .loop .inv) (c .before .before .loop-test .taken) (sym (c .before .probe-agrees .ensures) ∙ not-true _ (c .if1 .taken))))
 
 add-i : tie.Need-add-i Inv-loop μ-loop
-add-i c = omega (arith, c .before .before .before .before .before .before .before .before .before .before .pre .0 .laid .few)
+add-i c = omega (arith, c .before .before .before .before .before .before .before .before .before .pre .0 .laid .few)
 
 loop-less : tie.Need-loop-less Inv-loop μ-loop
 loop-less c = search needs
 
 loop-again : tie.Need-loop-again Inv-loop μ-loop
 loop-again c =
-    let turn = c .before .before .before .before .loop in
-    let a = c .before .before .before .before .before .before .before .before .before .before .args in
-    from-next (probeAgrees (dossierAt (a .d .now) (a .o)) (many (credential (a .o .atoms)) (a .w .now) 2 (a .k))) (a .o .nprobes) (turn .i) (turn .inv) (c .before .before .before .loop-test .taken) (test-passed _ _ (c .before .before .probe-fault .ensures) (c .enum-told .given .1))
+    let a = c .before .before .before .before .before .before .before .before .before .args in
+    from-next (probeAgrees (dossierAt (a .d .now) (a .o)) (many (credential (a .o .atoms)) (a .w .now) 2 (a .k))) (a .o .nprobes) (c .before .before .before .loop .i) (c .before .before .before .loop .inv) (c .before .before .loop-test .taken) (sym (c .before .probe-agrees .ensures) ∙ not-false _ (c .if1 .left))
 
 returns-2 : tie.Need-returns-2 Inv-loop μ-loop
 unfolding asFault
@@ -65,8 +59,7 @@ first-differing-spec =
     Inv-loop
     μ-loop
     loop-holds
-    probe-fault-requires
-    enum-told
+    probe-agrees-requires
     returns
     add-i
     loop-less

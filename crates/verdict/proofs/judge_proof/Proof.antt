@@ -1,7 +1,7 @@
 -- `verdict::judge_proof` meets its contract.
 use Prim.Native.Nat.{_<_, _-_}
 use Rattle.promise.specs.Thing.{okOf}
-use Rattle.verdict.proofs.Outcome.{fault-settled, line-below, proof-fails, proof-last}
+use Rattle.verdict.proofs.Outcome.{line-below, proof-fails, proof-last}
 use Rattle.verdict.proofs.Papers.{line-fits, line-ends}
 use borrow.Author.Needs.{needs, scaled-fits}
 use borrow.Author.Needs.{needs}
@@ -11,12 +11,6 @@ use Rattle.verdict.proofs.judge_proof.Tie as tie
 
 first-failing-requires : tie.Need-first-failing-requires
 first-failing-requires c κs = search needs
-
-enum-told : tie.Need-enum-told
-enum-told c = search needs
-
-unsettled-requires : tie.Need-unsettled-requires
-unsettled-requires c κs = search needs
 
 enum-known-j : tie.Need-enum-known-j
 enum-known-j c = search needs
@@ -42,8 +36,8 @@ refusing-requires c κs =
     let a = start .args in
     (line-fits (a .d .now) (a .o) (a .s .now) (a .lines .now) (a .k) (start .pre .1) _ (line-below (a .d .now) (a .o) (a .s .now) (a .lines .now) (a .k) (start .pre .1) (c .before .before .before .before .first-failing .ensures) (c .before .before .j .given .1)) (start .pre .2), line-ends _ _)
 
-enum-told-2 : tie.Need-enum-told-2
-enum-told-2 c = search needs
+enum-told : tie.Need-enum-told
+enum-told c = search needs
 
 sub-judge-last : tie.Need-sub-judge-last
 sub-judge-last c = search needs
@@ -66,37 +60,29 @@ judge-last-requires c κs =
 
 returns : tie.Need-returns
 returns c =
-    let a = c .before .before .before .before .before .before .before .before .before .before .before .args in
-    absurd (fault-settled _ (c .before .before .before .first-failing .ensures) (c .before .enum-told .given .1))
-
-returns-2 : tie.Need-returns-2
-returns-2 c =
     let start = c .before .before .before .before .before .before .before .before .before .before .before .before .before in
     let a = start .args in
     proof-fails (a .d .now) (a .o) (a .s .now) (a .lines .now) (a .k) (start .pre .1) (c .before .before .before .before .before .first-failing .ensures) (c .before .before .before .j .given .1) (c .refusing .ensures)
 
-returns-3 : tie.Need-returns-3
-returns-3 c =
+returns-2 : tie.Need-returns-2
+returns-2 c =
     let start = c .before .before .before .before .before .before .before .before .before .before .before .before in
     let a = start .args in
-    proof-last (a .d .now) (a .o) (a .s .now) (a .lines .now) (a .k) (start .pre .1) (c .before .before .before .before .first-failing .ensures) (start .pre .3) (c .before .before .enum-told2 .given .1) (c .judge-last .ensures)
+    proof-last (a .d .now) (a .o) (a .s .now) (a .lines .now) (a .k) (start .pre .1) (c .before .before .before .before .first-failing .ensures) (start .pre .3) (c .before .before .enum-told .given .1) (c .judge-last .ensures)
 
 pub judge-proof-spec : {M : Type 1} → statement M
 judge-proof-spec =
     tie.close
     (tie.spec
     first-failing-requires
-    enum-told
-    unsettled-requires
     enum-known-j
     mul-refusing
     shared-slice-read-refusing
     refusing-requires
-    enum-told-2
+    enum-told
     sub-judge-last
     mul-judge-last
     shared-slice-read-judge-last
     judge-last-requires
     returns
-    returns-2
-    returns-3)
+    returns-2)

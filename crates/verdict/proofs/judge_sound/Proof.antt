@@ -1,7 +1,7 @@
 -- `verdict::judge_sound` meets its contract: it fills the tables and asks for the proposal.
 use Rattle.evaluation.specs.Which.{WhichFits}
 use Rattle.lines.proofs.Tables.{creds-filled, probes-filled}
-use Rattle.verdict.proofs.Tables.{creds-fit, probes-fit, told-filled, answered, witness-there, proof-there, witness-judged, proof-judged}
+use Rattle.verdict.proofs.Tables.{creds-fit, probes-fit, told-filled, witness-there, proof-there, witness-judged, proof-judged}
 use borrow.Author.Needs.{needs}
 use Rattle.verdict.proofs.judge_sound.Statement.{statement}
 use Rattle.verdict.proofs.judge_sound.Tie as tie
@@ -40,12 +40,6 @@ answers-requires c κs =
     let a = start .args in
     (record { laid = start .pre .0; starts = creds-filled (a .d .now) (a .o) _ (c .before .before .before .before .before .before .before .starts .ensures) (start .pre .0 .fewCreds); witness = tt }, probes-filled (a .d .now) (a .o) _ (c .before .before .before .before .starts2 .ensures) (start .pre .0 .few), start .pre .0 .few)
 
-unsettled-requires : tie.Need-unsettled-requires
-unsettled-requires c κs = search needs
-
-returns : tie.Need-returns
-returns c = absurd (answered _ (c .before .before .before .answers .ensures .0) (c .before .if1 .taken))
-
 enum-known-proposal : tie.Need-enum-known-proposal
 enum-known-proposal c = search needs
 
@@ -61,9 +55,9 @@ slice-aggregate-judge-witness-3 c = search needs
 judge-witness-requires : tie.Need-judge-witness-requires
 unfolding WhichFits
 judge-witness-requires c κs =
-    let start = c .before .before .before .before .before .before .before .before .before .before .before .before .before .before .before .before .before .before .before .before in
+    let start = c .before .before .before .before .before .before .before .before .before .before .before .before .before .before .before .before .before .before .before in
     let a = start .args in
-    (record { laid = start .pre .0; starts = creds-filled (a .d .now) (a .o) _ (c .before .before .before .before .before .before .before .before .before .before .before .before .before .before .before .before .starts .ensures) (start .pre .0 .fewCreds); witness = witness-there (a .o .atoms) (a .c .now) (c .before .before .before .before .proposal .given .1) (start .pre .1) }, probes-filled (a .d .now) (a .o) _ (c .before .before .before .before .before .before .before .before .before .before .before .before .before .starts2 .ensures) (start .pre .0 .few), told-filled (a .d .now) (a .o) _ (c .before .before .before .before .before .before .before .before .answers .ensures .1) (start .pre .0 .few))
+    (record { laid = start .pre .0; starts = creds-filled (a .d .now) (a .o) _ (c .before .before .before .before .before .before .before .before .before .before .before .before .before .before .before .starts .ensures) (start .pre .0 .fewCreds); witness = witness-there (a .o .atoms) (a .c .now) (c .before .before .before .before .proposal .given .1) (start .pre .1) }, probes-filled (a .d .now) (a .o) _ (c .before .before .before .before .before .before .before .before .before .before .before .before .starts2 .ensures) (start .pre .0 .few), told-filled (a .d .now) (a .o) _ (c .before .before .before .before .before .before .before .answers .ensures) (start .pre .0 .few))
 
 enum-known-proposal-2 : tie.Need-enum-known-proposal-2
 enum-known-proposal-2 c = search needs
@@ -79,19 +73,19 @@ slice-aggregate-judge-lines-3 c = search needs
 
 judge-lines-requires : tie.Need-judge-lines-requires
 judge-lines-requires c κs =
-    let start = c .before .before .before .before .before .before .before .before .before .before .before .before .before .before .before .before .before .before .before .before in
+    let start = c .before .before .before .before .before .before .before .before .before .before .before .before .before .before .before .before .before .before .before in
     let a = start .args in
     let t = proof-there (a .o .atoms) (a .c .now) (c .before .before .before .before .proposal2 .given .1) (start .pre .1) in
-    (start .pre .0, creds-filled (a .d .now) (a .o) _ (c .before .before .before .before .before .before .before .before .before .before .before .before .before .before .before .before .starts .ensures) (start .pre .0 .fewCreds), probes-filled (a .d .now) (a .o) _ (c .before .before .before .before .before .before .before .before .before .before .before .before .before .starts2 .ensures) (start .pre .0 .few), told-filled (a .d .now) (a .o) _ (c .before .before .before .before .before .before .before .before .answers .ensures .1) (start .pre .0 .few), t .0, t .1, t .2)
+    (start .pre .0, creds-filled (a .d .now) (a .o) _ (c .before .before .before .before .before .before .before .before .before .before .before .before .before .before .before .starts .ensures) (start .pre .0 .fewCreds), probes-filled (a .d .now) (a .o) _ (c .before .before .before .before .before .before .before .before .before .before .before .before .starts2 .ensures) (start .pre .0 .few), told-filled (a .d .now) (a .o) _ (c .before .before .before .before .before .before .before .answers .ensures) (start .pre .0 .few), t .0, t .1, t .2)
+
+returns : tie.Need-returns
+returns c =
+    let a = c .before .before .before .before .before .before .before .before .before .before .before .before .before .before .before .before .before .before .before .before .args in
+    witness-judged (a .d .now) (a .o) (a .c .now) (c .before .before .before .before .before .proposal .given .1) (c .judge-witness .ensures)
 
 returns-2 : tie.Need-returns-2
 returns-2 c =
-    let a = c .before .before .before .before .before .before .before .before .before .before .before .before .before .before .before .before .before .before .before .before .before .args in
-    witness-judged (a .d .now) (a .o) (a .c .now) (c .before .before .before .before .before .proposal .given .1) (c .judge-witness .ensures)
-
-returns-3 : tie.Need-returns-3
-returns-3 c =
-    let a = c .before .before .before .before .before .before .before .before .before .before .before .before .before .before .before .before .before .before .before .before .before .args in
+    let a = c .before .before .before .before .before .before .before .before .before .before .before .before .before .before .before .before .before .before .before .before .args in
     proof-judged (a .d .now) (a .o) (a .c .now) (c .before .before .before .before .before .proposal2 .given .1) (c .judge-lines .ensures)
 
 pub judge-sound-spec : {M : Type 1} → statement M
@@ -106,8 +100,6 @@ judge-sound-spec =
     slice-aggregate-answers-2
     slice-aggregate-answers-3
     answers-requires
-    unsettled-requires
-    returns
     enum-known-proposal
     slice-aggregate-judge-witness
     slice-aggregate-judge-witness-2
@@ -118,5 +110,5 @@ judge-sound-spec =
     slice-aggregate-judge-lines-2
     slice-aggregate-judge-lines-3
     judge-lines-requires
-    returns-2
-    returns-3)
+    returns
+    returns-2)

@@ -1,6 +1,6 @@
 -- `verdict::judge_witness` meets its contract.
 use Rattle.promise.specs.Thing.{okOf}
-use Rattle.verdict.proofs.Outcome.{fault-settled, probe-below, witness-differs, witness-alike}
+use Rattle.verdict.proofs.Outcome.{probe-below, witness-differs, witness-alike}
 use Rattle.verdict.proofs.Papers.{probe-fits, entry-ends}
 use borrow.Author.Needs.{needs, scaled-fits}
 use borrow.Author.Needs.{needs}
@@ -10,12 +10,6 @@ use Rattle.verdict.proofs.judge_witness.Tie as tie
 
 first-differing-requires : tie.Need-first-differing-requires
 first-differing-requires c κs = search needs
-
-enum-told : tie.Need-enum-told
-enum-told c = search needs
-
-unsettled-requires : tie.Need-unsettled-requires
-unsettled-requires c κs = search needs
 
 enum-known-j : tie.Need-enum-known-j
 enum-known-j c = search needs
@@ -41,41 +35,33 @@ refusing-requires c κs =
     let a = start .args in
     ((probe-fits (a .d .now) (a .o) (a .creds .now) (a .probes .now) (a .told .now) (a .w .now) (a .k) (start .pre .0) (start .pre .1) (start .pre .2) _ (probe-below (a .d .now) (a .o) (a .w .now) (a .k) (c .before .before .before .before .first-differing .ensures) (c .before .before .j .given .1))) .ends, entry-ends _ _)
 
-enum-told-2 : tie.Need-enum-told-2
-enum-told-2 c = search needs
+enum-told : tie.Need-enum-told
+enum-told c = search needs
 
 judge-secret-requires : tie.Need-judge-secret-requires
 judge-secret-requires c κs = search needs
 
 returns : tie.Need-returns
 returns c =
-    let a = c .before .before .before .before .before .before .before .before .before .args in
-    absurd (fault-settled _ (c .before .before .before .first-differing .ensures) (c .before .enum-told .given .1))
-
-returns-2 : tie.Need-returns-2
-returns-2 c =
     let start = c .before .before .before .before .before .before .before .before .before .before .before in
     let a = start .args in
     witness-differs (a .d .now) (a .o) (a .w .now) (a .k) (c .before .before .before .before .before .first-differing .ensures) (a .probes .now) (start .pre .1) (c .before .before .before .j .given .1) (c .refusing .ensures)
 
-returns-3 : tie.Need-returns-3
-returns-3 c =
+returns-2 : tie.Need-returns-2
+returns-2 c =
     let a = c .before .before .before .before .before .before .before .before .before .args in
-    witness-alike (a .d .now) (a .o) (a .w .now) (a .k) (c .before .before .before .first-differing .ensures) (c .before .enum-told2 .given .1) (c .judge-secret .ensures)
+    witness-alike (a .d .now) (a .o) (a .w .now) (a .k) (c .before .before .before .first-differing .ensures) (c .before .enum-told .given .1) (c .judge-secret .ensures)
 
 pub judge-witness-spec : {M : Type 1} → statement M
 judge-witness-spec =
     tie.close
     (tie.spec
     first-differing-requires
-    enum-told
-    unsettled-requires
     enum-known-j
     mul-refusing
     shared-slice-read-refusing
     refusing-requires
-    enum-told-2
+    enum-told
     judge-secret-requires
     returns
-    returns-2
-    returns-3)
+    returns-2)
