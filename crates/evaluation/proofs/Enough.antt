@@ -1,6 +1,7 @@
 -- 64 rounds are enough: `enough`.
 use Prim.Native.Nat.{ℕ}
 use mathlib.Core.List.{List, []}
+use native.Mathlib.Omega.{arith}
 use lib.ListN.{length}
 use Rattle.meaning.specs.Policy.{Clause, Policy}
 use Rattle.meaning.specs.Formula.{joined}
@@ -18,7 +19,7 @@ module _ (D : Dossier) (f : DossierForm D) where
   settled : (P : Policy) → Below (length (D .labels)) P → (S : List ℕ) → Settled (joined (D .creds) P S [])
   settled P h S =
       let J = sent-below (length (D .labels)) D (λ c m. form-below (f .creds .each c m)) P h S in
-      roundsEnough (length (D .labels)) 64 (joined (D .creds) P S []) (λ c m. J c m .0) (f .labels .few)
+      roundsEnough (length (D .labels)) _ (joined (D .creds) P S []) (λ c m. J c m .0) (omega (arith, f .labels .few))
 
 pub enough : Enough
 unfolding PartsForm

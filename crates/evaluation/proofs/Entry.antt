@@ -69,7 +69,7 @@ module _ {z : List ℕ} (e : z ≡ replicate 64 0) (n : ℕ) (small : n ≤ 64) 
   pub zero-size : length (take n z) ≡ n
   zero-size = length-take-le n z (omega (arith, ap length e, length-replicate {A = ℕ} 64 0))
 
-  pub zero-none : (a : ℕ) → a < n → has (take n z) a ≡ false
+  zero-none : (a : ℕ) → a < n → has (take n z) a ≡ false
   unfolding has _is_
   zero-none a h = ap (λ (x : ℕ). eqb x 1) (getD-take n z a 0 h ∙ ap (λ (l : List ℕ). getD l a 0) e ∙ getD-replicate 64 a 0 0 (omega arith))
 
@@ -77,7 +77,7 @@ module _ {z : List ℕ} (e : z ≡ replicate 64 0) (n : ℕ) (small : n ≤ 64) 
 
 -- all that is known of the entry at p, whose view is e
 module _ (d : List ℕ) (o : Layout) (creds w : List ℕ) (which : Which) (ready : Ready d o creds w which) (p : ℕ) (fits : EntryFits (o .atoms) (o .ncreds) d p) (e : EntryAt) (seen : e ≡ entryAt d p) where
-  abbrev pub J : Policy
+  abbrev J : Policy
   J = joinedAt d o w which e
 
   pub sources : Sources d o creds w which e

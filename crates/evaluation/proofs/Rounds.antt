@@ -74,7 +74,7 @@ fire-round : (n : ℕ) (t : List ℕ) (X : ℕ → Bool) (P : Policy) → Is n t
 unfolding round
 fire-round n t X P i f le a lt = fireAll-has n t X P t i f le a ∙ (rw (i a lt) (or-comm _ (X a)))
 
-pub rounds-after : (n : ℕ) (P : Policy) → Below n P → (k j : ℕ) (t : List ℕ) → n ≤ length t → Is n t (after P j) → Is n (rounds P k t) (after P (k + j))
+rounds-after : (n : ℕ) (P : Policy) → Below n P → (k j : ℕ) (t : List ℕ) → n ≤ length t → Is n t (after P j) → Is n (rounds P k t) (after P (k + j))
 unfolding rounds after
 rounds-after n P f zero j t le i a h = let e : j ≡ 0 + j = omega arith in i a h ∙ ap (λ (m : ℕ). after P m a) e
 rounds-after n P f (suc k) j t le i a h =
@@ -83,7 +83,7 @@ rounds-after n P f (suc k) j t le i a h =
 
 -- from no atoms: so many rounds, and that 64 give what holds
 module _ (n : ℕ) (P : Policy) (f : Below n P) (t : List ℕ) (le : n ≤ length t) (none : (a : ℕ) → a < n → has t a ≡ false) where
-  pub rounds-from : (k : ℕ) → Is n (rounds P k t) (after P k)
+  rounds-from : (k : ℕ) → Is n (rounds P k t) (after P k)
   unfolding after
   rounds-from k a h = let e : k + 0 ≡ k = omega arith in rounds-after n P f k 0 t le none a h ∙ ap (λ (m : ℕ). after P m a) e
 
