@@ -26,5 +26,5 @@ unfolding PartsForm
 enough =
     record {
       own = λ D f. settled D f _ (own-below (length (D .labels)) D (λ m i. form-below (f .clauses .each m i)));
-      tried = λ D W f g. settled D f _ (tried-below (length (D .labels)) D (λ m i. form-below (f .clauses .each m i)) W (λ c i. form-below (g .parts .each c i)));
+      withWitness = λ D W f g. settled D f _ (tried-below (length (D .labels)) D (λ m i. form-below (f .clauses .each m i)) W (λ c i. form-below (g .parts .each c i)));
     }

@@ -13,11 +13,11 @@ use Rattle.meaning.specs.Formula.{Formula, always, atom, neg, conj, disj, read,
 use Rattle.meaning.specs.Papers.{Marked, answer}
 use Rattle.promise.specs.Code.{bit}
 use Rattle.promise.specs.Form.{FormulaForm}
-use Rattle.promise.specs.Place.{many, Fit, Starts}
+use Rattle.promise.specs.Place.{many, place, Fit, Starts}
 use Rattle.promise.specs.Clause.{credential, marked}
 use Rattle.promise.specs.Formula.{FormulaFits, formulaAt, entryAt, entryOf, EntryFits, entry}
 use Rattle.promise.specs.declared.EntryAt.{EntryAt}
-use Rattle.promise.specs.Layout.{dossierAt}
+use Rattle.promise.specs.Layout.{dossierAt, Laid}
 use Rattle.promise.specs.declared.Layout.{Layout}
 use Rattle.promise.proofs.Place.{fit-each}
 use Rattle.evaluation.specs.Table.{has, inTable, rounds}
@@ -121,11 +121,14 @@ module _ (d : List ℕ) (o : Layout) (creds w : List ℕ) (which : Which) (ready
 
 -- ---- probe j, through the table of starts
 
-pub probe-word : (d : List ℕ) (o : Layout) (probes w : List ℕ) → Starts (entry (o .atoms) (o .ncreds) .next d) (o .probes) (o .nprobes) probes → (j : ℕ) → j < o .nprobes
-    → {x : ℕ} {a : Bool} → x ≡ bit a → a ≡ answerOf d o w Own (getD probes j 0) → x ≡ answerWord d o j
-unfolding answerWord answerOf policyAt
-probe-word d o probes w s j h e f = e ∙ ap bit (f ∙ ap (answerOf d o w Own) (s .each j h))
+module _ (d : List ℕ) (o : Layout) (probes : List ℕ) (s : Starts (entry (o .atoms) (o .ncreds) .next d) (o .probes) (o .nprobes) probes) (j : ℕ) (h : j < o .nprobes) where
+  pub probe-fits : Laid d o → EntryFits (o .atoms) (o .ncreds) d (getD probes j 0)
+  unfolding Fit
+  probe-fits l = rw (s .each j h) (l .probes j h)
 
-pub probe-fits : (d : List ℕ) (o : Layout) (creds probes w : List ℕ) → Ready d o creds w Own → Starts (entry (o .atoms) (o .ncreds) .next d) (o .probes) (o .nprobes) probes → (j : ℕ) → j < o .nprobes → EntryFits (o .atoms) (o .ncreds) d (getD probes j 0)
-unfolding Fit
-probe-fits d o creds probes w ready s j h = rw (s .each j h) (ready .laid .probes j h)
+  pub probe-answer : (w : List ℕ) (which : Which) {a : Bool} → a ≡ answerOf d o w which (getD probes j 0) → a ≡ answerOf d o w which (place (entry (o .atoms) (o .ncreds) .next d) (o .probes) j)
+  probe-answer w which e = e ∙ ap (answerOf d o w which) (s .each j h)
+
+  pub probe-word : (w : List ℕ) {x : ℕ} {a : Bool} → x ≡ bit a → a ≡ answerOf d o w Own (getD probes j 0) → x ≡ answerWord d o j
+  unfolding answerWord answerOf policyAt
+  probe-word w e f = e ∙ ap bit (probe-answer w Own f)

@@ -1,8 +1,8 @@
 -- An entry's answer in a policy.
 use Prim.Native.Nat.{ℕ}
 use mathlib.Core.Bool.{Bool}
-use mathlib.Core.List.{List}
-use Rattle.meaning.specs.Papers.{policy, answer}
+use mathlib.Core.List.{List, []}
+use Rattle.meaning.specs.Papers.{answer}
 use Rattle.promise.specs.Code.{bit}
 use Rattle.promise.specs.Place.{place}
 use Rattle.promise.specs.Formula.{entryAt, entryOf, entry}
@@ -10,11 +10,12 @@ use Rattle.promise.specs.Layout.{dossierAt}
 use Rattle.promise.specs.declared.Layout.{Layout}
 use Rattle.evaluation.specs.Which.{policyAt}
 use Rattle.evaluation.specs.declared.Which.{Which}
+use Rattle.evaluation.specs.declared.Which.the-variants.{Own}
 
 -- the answer of the entry at p of the dossier's words d, in that policy with the entry's credentials
 unfoldable pub answerOf : List ℕ → Layout → List ℕ → Which → ℕ → Bool
 answerOf d o w which p = answer (dossierAt d o) (policyAt d o w which) (entryOf d (entryAt d p))
 
--- probe j's answer in the dossier's own policy, as a word
+-- probe j's answer in the dossier's own policy, as a word; no certificate is looked at
 unfoldable pub answerWord : List ℕ → Layout → ℕ → ℕ
-answerWord d o j = bit (answer (dossierAt d o) (policy (dossierAt d o)) (entryOf d (entryAt d (place (entry (o .atoms) (o .ncreds) .next d) (o .probes) j))))
+answerWord d o j = bit (answerOf d o [] Own (place (entry (o .atoms) (o .ncreds) .next d) (o .probes) j))

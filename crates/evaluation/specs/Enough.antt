@@ -19,4 +19,4 @@ pub record Enough : Type 0 where
   -- for every sound dossier, whichever credentials S names
   pub own : (D : Dossier) → DossierForm D → (S : List ℕ) → Settled (joined (D .creds) (policy D) S [])
   -- and for every witness that is sound for it, with the visible clauses
-  pub tried : (D : Dossier) (W : Policy) → DossierForm D → CertificateForm (length (D .labels)) (length (D .creds)) (witness W) → (S : List ℕ) → Settled (joined (D .creds) (tried D W) S [])
+  pub withWitness : (D : Dossier) (W : Policy) → DossierForm D → CertificateForm (length (D .labels)) (length (D .creds)) (witness W) → (S : List ℕ) → Settled (joined (D .creds) (tried D W) S [])

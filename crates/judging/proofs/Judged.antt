@@ -22,7 +22,8 @@ use Rattle.certificate.specs.Read.{certificate}
 use Rattle.reply.specs.Answer.{refused}
 use Rattle.reply.specs.declared.Paper.the-variants as paper
 use Rattle.reply.specs.declared.Reply.{Reply}
-use Rattle.evaluation.specs.Answer.{answerWord}
+use Rattle.evaluation.specs.Which.{policyAt}
+use Rattle.evaluation.specs.Answer.{answerOf, answerWord}
 use Rattle.verdict.specs.Told.{replyAt, sizeOf}
 use Rattle.judging.specs.Judge.{judgeProposal, judgeRead, judgeOf, Sound, Offered}
 use Rattle.judging.specs.Answers.{wordTo, countOf, tableOf, answersOf, tableAfter}
@@ -77,7 +78,7 @@ rows-same f g (suc k) h = ap₂ {C = List ℕ} (λ l x. l ++ (x ∷ [])) (rows-s
 
 module _ (d t : List ℕ) (o : Layout) (s : Sound d o) where
   words-are : (j : ℕ) → j < o .nprobes → answerWord d o j ≡ wordTo (s .paper) j
-  unfolding answerWord wordTo named dossierAt
+  unfolding answerWord answerOf policyAt wordTo named dossierAt
   words-are j h =
       ap (λ (x : Option Entry). bit (named x (λ e. answer (dossierAt d o) (policy (dossierAt d o)) e))) (sym (many-at (entry (o .atoms) (o .ncreds)) d (o .probes) (o .nprobes) j h))
       ∙ ap (λ (y : Dossier). bit (named (at (y .probes) j) (λ e. answer y (policy y) e))) (sound-paper d o s)

@@ -8,7 +8,6 @@ use native.Mathlib.Omega.{arith}
 use lib.ListN.{length, getD}
 use Rattle.meaning.specs.Tests.{agree, at, named, choose, lowest, _is_}
 use Rattle.meaning.specs.Looks.{aim}
-use Rattle.meaning.specs.Policy.{Policy}
 use Rattle.meaning.specs.Papers.{Dossier, Line, answer, witness, proof}
 use Rattle.meaning.specs.Rules.{lineFollows}
 use Rattle.meaning.specs.Verdict.{Outcome, opaque, detectable, probeDiffers, secretTrue, lineFails, lastNotEmpty, tried, probeAgrees, lastEmpty, decide, judge}
@@ -60,8 +59,9 @@ module _ (d : List ℕ) (o : Layout) (w : List ℕ) (k : ℕ) where
   D : Dossier
   D = dossierAt d o
 
-  W : Policy
-  W = many (credential (o .atoms)) w 2 k
+  -- the reply r is the one for the secret's answer in the policy tried
+  abbrev Judged : Reply → Type 0
+  Judged r = r ≡ replyAt d o w k (choose (agree (answer (dossierAt d o) (tried (dossierAt d o) (many (credential (o .atoms)) w 2 k)) (dossierAt d o .secret)) (not (aim (dossierAt d o)))) opaque secretTrue)
 
   module _ {f : Fault} (e : f ≡ asFault (lowest (probeAgrees (dossierAt d o) (many (credential (o .atoms)) w 2 k)) 0 (o .nprobes))) where
     probes-many : length (D .probes) ≡ o .nprobes
@@ -78,8 +78,7 @@ module _ (d : List ℕ) (o : Layout) (w : List ℕ) (k : ℕ) where
         g ∙ ap (λ (p : ℕ). showing 14 paper.Dossier thing.Entry d p) (s .each j (probe-below h))
         ∙ ap (λ (x : Option ℕ). replyAt d o w k (decide x probeDiffers (agree (answer D (tried D (many (credential (o .atoms)) w 2 k)) (D .secret)) (not (aim D))) opaque secretTrue)) (sym out)
 
-    pub witness-alike : {r : Reply} → f ≡ fault.Nowhere → r ≡ replyAt d o w k (choose (agree (answer (dossierAt d o) (tried (dossierAt d o) (many (credential (o .atoms)) w 2 k)) (dossierAt d o .secret)) (not (aim (dossierAt d o)))) opaque secretTrue)
-        → r ≡ replyAt d o w k (judge (dossierAt d o) (witness (many (credential (o .atoms)) w 2 k)))
+    pub witness-alike : {r : Reply} → f ≡ fault.Nowhere → Judged r → r ≡ replyAt d o w k (judge (dossierAt d o) (witness (many (credential (o .atoms)) w 2 k)))
     unfolding judge decide D
     witness-alike {r} h g =
         let out : lowest (probeAgrees D (many (credential (o .atoms)) w 2 k)) 0 (length (D .probes)) ≡ none = ap (λ (n : ℕ). lowest (probeAgrees D (many (credential (o .atoms)) w 2 k)) 0 n) probes-many ∙ fault-none e h in
@@ -92,15 +91,15 @@ module _ (d : List ℕ) (o : Layout) (w : List ℕ) (k : ℕ) where
   by-secret false = refl
 
   module _ {b : Bool} (e : b ≡ answerOf d o w (Tried k) (o .secret)) {r : Reply} where
-    secret-told : r ≡ choose b (showing 15 paper.Dossier thing.Entry d (o .secret)) (accepted said.Opaque) → r ≡ replyAt d o w k (choose (agree (answer (dossierAt d o) (tried (dossierAt d o) (many (credential (o .atoms)) w 2 k)) (dossierAt d o .secret)) (not (aim (dossierAt d o)))) opaque secretTrue)
+    secret-told : r ≡ choose b (showing 15 paper.Dossier thing.Entry d (o .secret)) (accepted said.Opaque) → Judged r
     unfolding answerOf policyAt dossierAt
     secret-told g = g ∙ by-secret b ∙ ap (λ (x : Bool). replyAt d o w k (choose (agree x (not (aim (dossierAt d o)))) opaque secretTrue)) e
 
-    pub secret-yes : b ≡ true → r ≡ showing 15 paper.Dossier thing.Entry d (o .secret) → r ≡ replyAt d o w k (choose (agree (answer (dossierAt d o) (tried (dossierAt d o) (many (credential (o .atoms)) w 2 k)) (dossierAt d o .secret)) (not (aim (dossierAt d o)))) opaque secretTrue)
+    pub secret-yes : b ≡ true → r ≡ showing 15 paper.Dossier thing.Entry d (o .secret) → Judged r
     unfolding choose
     secret-yes h g = secret-told (rw h g)
 
-    pub secret-no : b ≡ false → r ≡ accepted said.Opaque → r ≡ replyAt d o w k (choose (agree (answer (dossierAt d o) (tried (dossierAt d o) (many (credential (o .atoms)) w 2 k)) (dossierAt d o .secret)) (not (aim (dossierAt d o)))) opaque secretTrue)
+    pub secret-no : b ≡ false → r ≡ accepted said.Opaque → Judged r
     unfolding choose
     secret-no h g = secret-told (rw h g)
 

@@ -15,7 +15,7 @@ use Rattle.meaning.specs.Verdict.{tried, probeAgrees}
 use Rattle.promise.specs.Code.{bit}
 use Rattle.promise.specs.Place.{Kind, many, place, Fit, Starts}
 use Rattle.promise.specs.Clause.{credential}
-use Rattle.promise.specs.Formula.{entryAt, entryOf, entry, EntryFits}
+use Rattle.promise.specs.Formula.{entryAt, entryOf, entry}
 use Rattle.promise.specs.Line.{literal, lineAt, lineOf, line, LineFits}
 use Rattle.promise.specs.Thing.{nextOf}
 use Rattle.promise.specs.Layout.{dossierAt}
@@ -28,9 +28,10 @@ use Rattle.reply.specs.declared.Reply.{Reply}
 use Rattle.reply.specs.declared.Paper.the-variants as paper
 use Rattle.reply.specs.declared.Verdict.the-variants as said
 use borrow.Author.Tests.{eq-eqb, ne-eqb}
-use Rattle.evaluation.specs.Which.{Ready, policyAt}
+use Rattle.evaluation.specs.Which.{policyAt}
 use Rattle.evaluation.specs.Answer.{answerOf, answerWord}
 use Rattle.evaluation.specs.declared.Which.the-variants.{Tried}
+use Rattle.evaluation.proofs.Entry.{probe-answer}
 use Rattle.lines.specs.Ready.{ProbeStarts}
 use Rattle.verdict.specs.Told.{showing, Told}
 
@@ -43,23 +44,19 @@ bits-agree true false = refl
 bits-agree false true = refl
 bits-agree false false = refl
 
-module _ (d : List ℕ) (o : Layout) (creds probes told w : List ℕ) (k : ℕ) (ready : Ready d o creds w (Tried k)) (s : ProbeStarts d o probes) (t : Told d o told) (j : ℕ) (h : j < o .nprobes) where
+module _ (d : List ℕ) (o : Layout) (probes told w : List ℕ) (k : ℕ) (s : ProbeStarts d o probes) (t : Told d o told) (j : ℕ) (h : j < o .nprobes) where
   W : Policy
   W = many (credential (o .atoms)) w 2 k
 
   e : Entry
   e = entryOf d (entryAt d (place (entry (o .atoms) (o .ncreds) .next d) (o .probes) j))
 
-  pub probe-fits : EntryFits (o .atoms) (o .ncreds) d (getD probes j 0)
-  unfolding Fit
-  probe-fits = rw (s .each j h) (ready .laid .probes j h)
-
   tried-answer : {a : Bool} → a ≡ answerOf d o w (Tried k) (getD probes j 0) → a ≡ answer (dossierAt d o) (tried (dossierAt d o) W) e
   unfolding answerOf policyAt W e
-  tried-answer v = v ∙ ap (answerOf d o w (Tried k)) (s .each j h)
+  tried-answer v = probe-answer d o probes s j h w (Tried k) v
 
   own-word : getD told j 0 ≡ bit (answer (dossierAt d o) (policy (dossierAt d o)) e)
-  unfolding answerWord e
+  unfolding answerWord answerOf policyAt e
   own-word = t .each j h
 
   agrees-at : probeAgrees (dossierAt d o) W j ≡ agree (answer (dossierAt d o) (tried (dossierAt d o) W) e) (answer (dossierAt d o) (policy (dossierAt d o)) e)

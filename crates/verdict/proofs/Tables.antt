@@ -24,7 +24,8 @@ use Rattle.promise.specs.Thing.{nextOf, okOf, FitOf}
 use Rattle.promise.specs.declared.Layout.{Layout}
 use Rattle.promise.specs.declared.Thing.the-variants as thing
 use Rattle.promise.proofs.Place.{filled-at, filled-length, many-at, many-past}
-use Rattle.evaluation.specs.Answer.{answerWord}
+use Rattle.evaluation.specs.Which.{policyAt}
+use Rattle.evaluation.specs.Answer.{answerOf, answerWord}
 use Rattle.lines.specs.Ready as rules
 use Rattle.lines.specs.Ready.{ProbeStarts}
 use Rattle.verdict.specs.Told.{replyAt, sizeOf, Told}
@@ -60,7 +61,7 @@ module _ (d : List ℕ) (o : Layout) (table : List ℕ) (t : Told d o table) whe
   entryOf-some {x} {y} e = cc
 
   told-by : (j : ℕ) (e : Entry) (b : Bool) → ltb j (o .nprobes) ≡ b → at (dossierAt d o .probes) j ≡ some e → getD table j 0 ≡ bit (answer (dossierAt d o) (policy (dossierAt d o)) e)
-  unfolding answerWord dossierAt
+  unfolding answerWord answerOf policyAt dossierAt
   told-by j e true q h =
       let i = ltb-true j (o .nprobes) q in
       let same = entryOf-some (sym (many-at (entry (o .atoms) (o .ncreds)) d (o .probes) (o .nprobes) j i) ∙ h) in

@@ -16,7 +16,7 @@ answer-at-requires : tie.Need-answer-at-requires
 answer-at-requires c κs =
     let start = c .before .before .before .before .before .before in
     let a = start .args in
-    (start .pre .0, probe-fits (a .d .now) (a .o) (a .creds .now) (a .probes .now) (a .w .now) (start .pre .0) (start .pre .1) (a .i) (start .pre .2))
+    (start .pre .0, probe-fits (a .d .now) (a .o) (a .probes .now) (start .pre .1) (a .i) (start .pre .2) (start .pre .0 .laid))
 
 word-of-requires : tie.Need-word-of-requires
 word-of-requires c κs = search needs
@@ -34,7 +34,7 @@ returns : tie.Need-returns
 returns c =
     let start = c .before .before .before .before .before .before .before .before in
     let a = start .args in
-    ap (set (a .table .now) (a .i)) (probe-word (a .d .now) (a .o) (a .probes .now) (a .w .now) (start .pre .1) (a .i) (start .pre .2) (c .word-of .ensures) (c .before .answer-at .ensures))
+    ap (set (a .table .now) (a .i)) (probe-word (a .d .now) (a .o) (a .probes .now) (start .pre .1) (a .i) (start .pre .2) (a .w .now) (c .word-of .ensures) (c .before .answer-at .ensures))
 
 pub answer-probe-spec : {M : Type 1} → statement M
 answer-probe-spec =

@@ -1,7 +1,8 @@
 -- `verdict::judge_witness` meets its contract.
 use Rattle.promise.specs.Thing.{okOf}
 use Rattle.verdict.proofs.Outcome.{probe-below, witness-differs, witness-alike}
-use Rattle.verdict.proofs.Papers.{probe-fits, entry-ends}
+use Rattle.evaluation.proofs.Entry.{probe-fits}
+use Rattle.verdict.proofs.Papers.{entry-ends}
 use borrow.Author.Needs.{needs, scaled-fits}
 use borrow.Author.Needs.{needs}
 use native.Mathlib.Omega.{arith}
@@ -33,7 +34,7 @@ unfolding okOf
 refusing-requires c κs =
     let start = c .before .before .before .before .before .before .before .before .before .before in
     let a = start .args in
-    ((probe-fits (a .d .now) (a .o) (a .creds .now) (a .probes .now) (a .told .now) (a .w .now) (a .k) (start .pre .0) (start .pre .1) (start .pre .2) _ (probe-below (a .d .now) (a .o) (a .w .now) (a .k) (c .before .before .before .before .first-differing .ensures) (c .before .before .j .given .1))) .ends, entry-ends _ _)
+    (probe-fits (a .d .now) (a .o) (a .probes .now) (start .pre .1) _ (probe-below (a .d .now) (a .o) (a .w .now) (a .k) (c .before .before .before .before .first-differing .ensures) (c .before .before .j .given .1)) (start .pre .0 .laid) .ends, entry-ends _ _)
 
 enum-told : tie.Need-enum-told
 enum-told c = search needs

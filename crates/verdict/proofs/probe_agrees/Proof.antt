@@ -1,5 +1,6 @@
 -- `verdict::probe_agrees` meets its contract: the two answers are compared as words.
-use Rattle.verdict.proofs.Papers.{probe-fits, probe-told}
+use Rattle.evaluation.proofs.Entry.{probe-fits}
+use Rattle.verdict.proofs.Papers.{probe-told}
 use borrow.Author.Needs.{needs}
 use Rattle.verdict.proofs.probe_agrees.Statement.{statement}
 use Rattle.verdict.proofs.probe_agrees.Tie as tie
@@ -14,7 +15,7 @@ answer-at-requires : tie.Need-answer-at-requires
 answer-at-requires c κs =
     let start = c .before .before .before .before .before .before in
     let a = start .args in
-    (start .pre .0, probe-fits (a .d .now) (a .o) (a .creds .now) (a .probes .now) (a .told .now) (a .w .now) (a .k) (start .pre .0) (start .pre .1) (start .pre .2) (a .i) (start .pre .3))
+    (start .pre .0, probe-fits (a .d .now) (a .o) (a .probes .now) (start .pre .1) (a .i) (start .pre .3) (start .pre .0 .laid))
 
 word-of-requires : tie.Need-word-of-requires
 word-of-requires c κs = search needs
@@ -29,7 +30,7 @@ returns : tie.Need-returns
 returns c =
     let start = c .before .before .before .before .before .before .before .before .before in
     let a = start .args in
-    probe-told (a .d .now) (a .o) (a .creds .now) (a .probes .now) (a .told .now) (a .w .now) (a .k) (start .pre .0) (start .pre .1) (start .pre .2) (a .i) (start .pre .3) (c .before .word-of .ensures) (c .before .before .answer-at .ensures)
+    probe-told (a .d .now) (a .o) (a .probes .now) (a .told .now) (a .w .now) (a .k) (start .pre .1) (start .pre .2) (a .i) (start .pre .3) (c .before .word-of .ensures) (c .before .before .answer-at .ensures)
 
 pub probe-agrees-spec : {M : Type 1} → statement M
 probe-agrees-spec =
