@@ -9,11 +9,11 @@ use lib.ListN.{length, drop, length-append}
 use Rattle.words.specs.Out.{got}
 use Rattle.words.specs.Code.{codeAll}
 use Rattle.words.proofs.Promise.{OK, fine, ok-then, ok-made, ok-need, In, inGot, in-then-ok, in-made, in-need, Spans, spans-none, spans-join, past, Reads, reads-as}
-use Rattle.meaning.specs.Tests.{_∈_, same}
+use Rattle.meaning.specs.Tests.{_∈_}
 use Rattle.meaning.specs.Papers.{Statement, Literal}
 use Rattle.meaning.specs.Rules.{sameStatement}
-use Rattle.meaning.proofs.Tests.{cases, clash, not-true, and-of, is-refl, any-at, any-of}
-use Rattle.meaning.proofs.Sound.{sameStatement→≡}
+use Rattle.meaning.proofs.Tests.{cases, clash, not-true, any-at, any-of}
+use Rattle.meaning.proofs.Sound.{sameStatement→≡, sameStatement-refl}
 use Rattle.promise.specs.Code.{codeLiteral}
 use Rattle.promise.specs.Form.{StatementForm, Apart}
 use Rattle.certificate.specs.Read.{spoken, literals}
@@ -21,20 +21,15 @@ use Rattle.certificate.proofs.Items.{reads-literal}
 
 -- ---- the test of 13
 
-same-refl : (l : List ℕ) → same l l ≡ true
-unfolding same
-same-refl [] = refl
-same-refl (x ∷ l) = and-of (is-refl x) (same-refl l)
-
 -- none of these literals speaks of s
 abbrev pub Unspoken : Statement → List Literal → Type 0
 Unspoken s ls = (x : Literal) → x ∈ ls → x .said ≡ s → ⊥
 
 module _ {s : Statement} {ls : List Literal} where
   pub unspoken : spoken s ls ≡ false → Unspoken s ls
-  unfolding spoken sameStatement
+  unfolding spoken
   unspoken h x m e =
-      let r : sameStatement (x .said) s ≡ true = rw e (and-of (and-of (same-refl (s .creds)) (same-refl (s .atoms))) (is-refl (s .atom))) in
+      let r : sameStatement (x .said) s ≡ true = rw e (sameStatement-refl s) in
       clash (any-of (λ l. sameStatement (l .said) s) m r) h
 
   pub not-spoken : Unspoken s ls → spoken s ls ≡ false

@@ -15,7 +15,7 @@ use Rattle.meaning.specs.Looks.{aim}
 use Rattle.meaning.specs.Rules.{supposed, not₃, and₃, or₃, value, _gives_, denied, fires, claims, omit, follows}
 use Rattle.meaning.specs.Verdict.{opaque}
 use Rattle.meaning.specs.Demands.{When}
-use Rattle.meaning.proofs.Tests.{cases, clash, not-opposite, and-both, and-of, or-right, agree-of, is-refl, all-of, any-at, none-at, keep-at, map-at, named-of, at-mem, at-below, mem-at, mem-index}
+use Rattle.meaning.proofs.Tests.{cases, clash, not-opposite, and-both, and-of, or-right, agree-of, is-refl, same-refl, all-of, any-at, none-at, keep-at, map-at, named-of, at-mem, at-below, mem-at, mem-index}
 use Rattle.meaning.proofs.Rounds.{ClosedIn}
 use Rattle.meaning.proofs.Truth.{value-tested, alike-tested}
 use Rattle.meaning.proofs.Verdict.{own-visible, tried-visible, judge-exactly}
@@ -23,7 +23,7 @@ use Rattle.completeness.specs.Form.{size, AtomsBelow, WellFormed}
 use Rattle.completeness.specs.Complete.{SomeWitness}
 use Rattle.completeness.specs.Needed.{number, enough}
 use Rattle.completeness.proofs.Lists.{flatMap-of, mem-of, upTo, upTo-of}
-use Rattle.completeness.proofs.Tree.{lit, same-refl, isIn-of, Known, known-at, gives-at}
+use Rattle.completeness.proofs.Tree.{lit, isIn-of, Known, known-at, gives-at}
 use Rattle.completeness.proofs.Statements.{st, Part, part-omit, statements, statement-of, part-cred}
 use Rattle.completeness.proofs.Model.{VisibleClosed, CredsClosed, HeadsEnough, UnfiredSpared, Obeys, own, model, model-given, own-form}
 

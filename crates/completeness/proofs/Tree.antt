@@ -9,13 +9,13 @@ use native.Mathlib.Omega.{arith}
 use native.Mathlib.Decide.{decLt}
 use lib.ListN.{length, length-append}
 use lib.Seq.{take-append-le, take-append-seam}
-use Rattle.meaning.specs.Tests.{_∈_, _or_, _is_, same, all, any, mem, at, choose}
+use Rattle.meaning.specs.Tests.{_∈_, _or_, _is_, all, any, mem, at, choose}
 use Rattle.meaning.specs.Papers.{Dossier, Statement, Literal, Rule, Line}
 use Rattle.meaning.specs.Rules.{sameStatement, supposed, _gives_, isIn, others, follows, earlier, lineFollows}
 use Rattle.meaning.specs.Verdict.{lastEmpty}
 use Rattle.meaning.specs.Demands.{EachFollows}
 use Rattle.meaning.proofs.Tests.{and-of, agree→≡, agree-of, is-refl, mem-at, named-at, named-of, all-of, any-of, at-append}
-use Rattle.meaning.proofs.Sound.{sameStatement→≡}
+use Rattle.meaning.proofs.Sound.{sameStatement→≡, sameStatement-refl}
 use Rattle.completeness.specs.Form.{Pairwise}
 use Rattle.completeness.specs.Needed.{number, enough}
 
@@ -23,15 +23,6 @@ use Rattle.completeness.specs.Needed.{number, enough}
 
 abbrev pub lit : Bool → Statement → Literal
 lit b s = record { positive = b; said = s }
-
-pub same-refl : (l : List ℕ) → same l l ≡ true
-unfolding same
-same-refl [] = refl
-same-refl (x ∷ l) = and-of (is-refl x) (same-refl l)
-
-sameStatement-refl : (s : Statement) → sameStatement s s ≡ true
-unfolding sameStatement
-sameStatement-refl s = and-of (and-of (same-refl (s .creds)) (same-refl (s .atoms))) (is-refl (s .atom))
 
 pub isIn-of : {C : List Literal} {l : Literal} → l ∈ C → isIn C l ≡ true
 unfolding isIn

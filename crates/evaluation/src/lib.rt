@@ -6,7 +6,7 @@ ghost use mathlib.Core.Path.{_≡_};
 ghost use mathlib.Core.Bool.{true};
 ghost use Prim.Native.Nat.{ℕ, _+_, _≤_, _<_};
 ghost use lib.ListN.{length, replicate, set};
-ghost use Rattle.meaning.specs.Tests.{_∈_, _and_, _or_, _is_, all, choose};
+ghost use Rattle.meaning.specs.Tests.{_∈_, _and_, _or_, _is_, all, choose, same};
 ghost use Rattle.meaning.specs.Formula.{read};
 ghost use Rattle.promise.specs.Code.{bit};
 ghost use Rattle.promise.specs.Place.{part, many, Fit, Starts, filled};
@@ -173,19 +173,25 @@ fn fire_policy(d: &[u16], o: Layout, w: &[u16], which: Which, old: &[u8], new: &
     }
 }
 
-// Copies the whole of src to dst, which is as long.
-fn copy(src: &[u8], dst: &mut [u8])
+// Copies the whole of src to dst, which is as long. Answers whether they were the same.
+fn copy(src: &[u8], dst: &mut [u8]) -> bool
     requires { ⌜ length (now dst) ≡ length (now src) ⌝ }
-    ensures { λ _. ⌜ now (dst .exit) ≡ now (src .entry) ⌝ }
+    ensures { λ r. ⌜ (now (dst .exit) ≡ now (src .entry)) × (r ≡ same (now (dst .entry)) (now (src .entry))) ⌝ }
 {
+    let mut alike = true;
     let mut i = 0;
     while i < src.len() {
+        if dst[i] != src[i] {
+            alike = false;
+        }
         dst[i] = src[i];
         i += 1;
     }
+    alike
 }
 
-// One round over the policy joined with the entry's credentials. It reads the table as it was before, which it copies to `old`.
+// One round over the policy joined with the entry's credentials. It reads the table as it was before, which `old` has; then `old` has the new one.
+// Answers whether the round added nothing.
 fn one_round(
     d: &[u16],
     o: Layout,
@@ -195,25 +201,29 @@ fn one_round(
     e: EntryAt,
     old: &mut [u8],
     table: &mut [u8],
-)
-    requires { ⌜ Sources (now d) o (now creds) (now w) which e × (length (now table) ≡ o .atoms) × (length (now old) ≡ o .atoms) ⌝ }
-    ensures { λ _. ⌜ now (table .exit) ≡ fireAll (now (table .entry)) (joinedAt (now (d .entry)) o (now (w .entry)) which e) (now (table .entry)) ⌝ }
+) -> bool
+    requires { ⌜ Sources (now d) o (now creds) (now w) which e × (length (now table) ≡ o .atoms) × (now old ≡ now table) ⌝ }
+    ensures { λ r. ⌜ (now (table .exit) ≡ fireAll (now (table .entry)) (joinedAt (now (d .entry)) o (now (w .entry)) which e) (now (table .entry)))
+        × (now (old .exit) ≡ now (table .exit)) × (r ≡ same (now (table .entry)) (now (table .exit))) ⌝ }
 {
-    copy(table, old);
     fire_policy(d, o, w, which, old, table);
     fire_chosen(d, creds, e.creds, e.count, old, table);
+    copy(table, old)
 }
 
-// 64 rounds.
+// What 64 rounds give. It stops at a round that adds nothing.
 fn run(d: &[u16], o: Layout, creds: &[usize], w: &[u16], which: Which, e: EntryAt, table: &mut [u8])
     requires { ⌜ Sources (now d) o (now creds) (now w) which e × (length (now table) ≡ o .atoms) ⌝ }
     ensures { λ _. ⌜ now (table .exit) ≡ rounds (joinedAt (now (d .entry)) o (now (w .entry)) which e) 64 (now (table .entry)) ⌝ }
 {
     let mut old = [0u8; 64];
     let n = table.len();
+    copy(table, &mut old[..n]);
     let mut left = 64usize;
     while 0 < left {
-        one_round(d, o, creds, w, which, e, &mut old[..n], table);
+        if one_round(d, o, creds, w, which, e, &mut old[..n], table) {
+            return;
+        }
         left -= 1;
     }
 }

@@ -15,7 +15,7 @@ use Rattle.meaning.specs.Papers.{Marked, Dossier, policy, visible, answe
 use Rattle.meaning.specs.Looks.{Has, LookTheSame, aim}
 use Rattle.meaning.specs.Rules.{sameStatement, supposed, not₃, and₃, or₃, value, _gives_, isIn, denied, fires, claims, omit, others, follows, earlier, lineFollows}
 use Rattle.meaning.specs.Verdict.{lastEmpty}
-use Rattle.meaning.proofs.Tests.{clash, not-true, not-self, not-opposite, and-both, and-five, or-cases, agree→≡, agree-not, is→≡, is-refl, same→≡, all-at, any-at, none-at, keep-at, keep-of, map-of, named-at, named-is, at-mem, at-below, at-take, mem-at}
+use Rattle.meaning.proofs.Tests.{clash, not-true, not-self, not-opposite, and-both, and-of, and-five, or-cases, agree→≡, agree-not, is→≡, is-refl, same→≡, same-refl, all-at, any-at, none-at, keep-at, keep-of, map-of, named-at, named-is, at-mem, at-below, at-take, mem-at}
 use Rattle.meaning.proofs.Rounds.{ClosedIn, holds-closed, holds-least}
 use Rattle.meaning.proofs.Truth.{alike-tested, joined-policy, joined-cred, joined-fact, joined-closed}
 
@@ -60,6 +60,10 @@ sameStatement→≡ {s} {t} h =
     let r = and-both h in
     let q = and-both (r .0) in
     λ i. record { creds = same→≡ (q .0) i; atoms = same→≡ (q .1) i; atom = is→≡ (r .1) i }
+
+pub sameStatement-refl : (s : Statement) → sameStatement s s ≡ true
+unfolding sameStatement
+sameStatement-refl s = and-of (and-of (same-refl (s .creds)) (same-refl (s .atoms))) (is-refl (s .atom))
 
 isIn-at : (ls : List Literal) {l : Literal} → isIn ls l ≡ true → l ∈ ls
 unfolding isIn

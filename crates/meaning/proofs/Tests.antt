@@ -108,6 +108,11 @@ same→≡ {l = []} {m = y ∷ m} h = absurd (false≢true h)
 same→≡ {l = x ∷ l} {m = []} h = absurd (false≢true h)
 same→≡ {l = x ∷ l} {m = y ∷ m} h = let r = and-both h in ap₂ {C = List ℕ} _∷_ (is→≡ (r .0)) (same→≡ (r .1))
 
+pub same-refl : (l : List ℕ) → same l l ≡ true
+unfolding same
+same-refl [] = refl
+same-refl (x ∷ l) = and-of (is-refl x) (same-refl l)
+
 -- ---- elements
 
 module _ {A : Type 0} where

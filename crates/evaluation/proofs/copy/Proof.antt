@@ -1,21 +1,27 @@
--- `evaluation::copy` meets its contract. The invariant: the two are the same below i.
+-- `evaluation::copy` meets its contract. The invariant: dst is src below i and as it was beyond, and alike tells whether it was src.
 use borrow.Author.Needs.{needs}
-use native.Mathlib.Omega.{arith}
 use Prim.Native.Nat.{_-_}
-use mathlib.Core.Path.{_≡_, refl, _∙_}
-use lib.ListN.{length, length-set}
-use Rattle.evaluation.proofs.Copying.{Same, same-on, same-all}
+use mathlib.Core.Path.{sym, _∙_}
+use mathlib.Core.Logic.{⊎-elim}
+use lib.ListN.{length}
+use Rattle.evaluation.proofs.Copying.{Copied, copied-none, copied-alike, copied-other, copied-all}
 use Rattle.evaluation.proofs.copy.Statement.{statement}
 use Rattle.evaluation.proofs.copy.Tie as tie
 
 abbrev Inv-loop : tie.InvT-loop
-Inv-loop src dst₀ i₀ dst i = Same dst src i × (length dst ≡ length dst₀)
+Inv-loop src dst₀ alike₀ i₀ dst alike i = Copied src dst₀ dst i alike
 
 abbrev μ-loop : tie.MeasureT-loop
-μ-loop src dst₀ i₀ dst i = length src - i
+μ-loop src dst₀ alike₀ i₀ dst alike i = length src - i
 
 loop-holds : tie.Need-loop-holds Inv-loop μ-loop
-loop-holds c = (record { long = c .pre; each = λ k h. absurd (omega arith) }, refl)
+loop-holds c = copied-none (c .pre)
+
+slice-read-if1 : tie.Need-slice-read-if1 Inv-loop μ-loop
+slice-read-if1 c = search needs
+
+shared-slice-read-if1 : tie.Need-shared-slice-read-if1 Inv-loop μ-loop
+shared-slice-read-if1 c = search needs
 
 shared-slice-read-dst : tie.Need-shared-slice-read-dst Inv-loop μ-loop
 shared-slice-read-dst c = search needs
@@ -30,15 +36,13 @@ loop-less : tie.Need-loop-less Inv-loop μ-loop
 loop-less c = search needs
 
 loop-again : tie.Need-loop-again Inv-loop μ-loop
-loop-again c =
-    let l = c .before .before in
-    (same-on _ _ _ (l .loop .inv .0) (c .before .loop-test .taken), length-set (l .loop .dst) (l .loop .i) _ ∙ l .loop .inv .1)
+loop-again c = ⊎-elim (λ w. copied-other (c .before .before .before .before .before .loop .inv) (c .before .before .before .before .loop-test .taken) (w .0 .taken) (w .1)) (λ w. copied-alike (c .before .before .before .before .before .loop .inv) (c .before .before .before .before .loop-test .taken) (w .0 .left) (w .1)) (c .before .if1 .came)
 
 same-length : tie.Need-same-length Inv-loop μ-loop
-same-length c = c .before .loop .inv .1
+same-length c = c .before .loop .inv .done .long ∙ sym (c .before .before .pre)
 
 returns : tie.Need-returns Inv-loop μ-loop
-returns c = same-all _ _ _ (c .before .loop .inv .0) (c .loop-test .left)
+returns c = copied-all (c .before .loop .inv) (c .loop-test .left)
 
 pub copy-spec : {M : Type 1} → statement M
 copy-spec =
@@ -47,6 +51,8 @@ copy-spec =
     Inv-loop
     μ-loop
     loop-holds
+    slice-read-if1
+    shared-slice-read-if1
     shared-slice-read-dst
     slice-write-dst
     add-i
