@@ -10,11 +10,11 @@ use Rattle.judge.proofs.main.Tie as tie
 input-requires : tie.Need-input-requires
 input-requires c κs = search needs
 
-slice-aggregate-read-full : tie.Need-slice-aggregate-read-full
-slice-aggregate-read-full c = search needs
+slice-aggregate-read-all : tie.Need-slice-aggregate-read-all
+slice-aggregate-read-all c = search needs
 
-read-full-requires : tie.Need-read-full-requires
-read-full-requires c κs = search needs
+read-all-requires : tie.Need-read-all-requires
+read-all-requires c κs = search needs
 
 room-requires : tie.Need-room-requires
 room-requires c κs = search needs
@@ -26,7 +26,7 @@ array-share-prefix-bytes : tie.Need-array-share-prefix-bytes
 array-share-prefix-bytes c = search needs
 
 slice-aggregate-stdin-line : tie.Need-slice-aggregate-stdin-line
-slice-aggregate-stdin-line c = search needs
+slice-aggregate-stdin-line c = sym (length-take-le _ _ (c .before .before .before .before .read-all .ensures))
 
 slice-aggregate-stdin-line-2 : tie.Need-slice-aggregate-stdin-line-2
 slice-aggregate-stdin-line-2 c = search needs
@@ -54,8 +54,8 @@ main-spec =
     tie.close
     (tie.spec
     input-requires
-    slice-aggregate-read-full
-    read-full-requires
+    slice-aggregate-read-all
+    read-all-requires
     room-requires
     blank-requires
     array-share-prefix-bytes
