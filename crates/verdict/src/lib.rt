@@ -9,6 +9,7 @@ use reply::Verdict;
 ghost use mathlib.Core.Path.{_≡_};
 ghost use mathlib.Core.Bool.{not};
 ghost use Prim.Native.Nat.{_≤_, _<_, _-_};
+ghost use lib.ListN.{length};
 ghost use Rattle.meaning.specs.Tests.{_is_, agree, choose, lowest};
 ghost use Rattle.meaning.specs.Looks.{aim};
 ghost use Rattle.meaning.specs.Papers as papers;
@@ -175,7 +176,7 @@ fn judge_last(s: &[u16], p: usize) -> Reply
     }
 }
 
-// A proof of k lines.
+// A proof of k lines; `lines` has room for where each begins.
 fn judge_proof(
     d: &[u16],
     o: Layout,
@@ -184,19 +185,20 @@ fn judge_proof(
     probes: &[usize],
     told: &[u16],
     s: &[u16],
-    lines: &[usize],
+    lines: &mut [usize],
     k: usize,
 ) -> Reply
-    requires { ⌜ rules.Ready (now d) o (now clauses) (now creds) (now probes) (now told) × rules.LineStarts (now s) k (now lines) × Fit line (now s) 2 k × (1 ≤ k) × (k ≤ 1024) ⌝ }
+    requires { ⌜ rules.Ready (now d) o (now clauses) (now creds) (now probes) (now told) × (k ≤ length (now lines)) × Fit line (now s) 2 k × (1 ≤ k) × (k ≤ 1024) ⌝ }
     ensures { λ r. ⌜ r ≡ replyAt (now (d .entry)) o (now (s .entry)) k (meant.judge (dossierAt (now (d .entry)) o) (papers.proof (many line (now (s .entry)) 2 k))) ⌝ }
 {
+    promise::starts(s, 2, k, Thing::Line, lines);
     match first_failing(d, o, clauses, creds, probes, told, s, lines, k) {
         Fault::At(j) => refusing(16, Paper::Certificate, Thing::Line, s, lines[j]),
         Fault::Nowhere => judge_last(s, lines[k - 1]),
     }
 }
 
-// The proof of k lines, with the tables that only a proof needs.
+// The proof of k lines, with the tables that only a proof needs. A short proof has a short one for its lines.
 fn judge_lines(
     d: &[u16],
     o: Layout,
@@ -210,10 +212,13 @@ fn judge_lines(
     ensures { λ r. ⌜ r ≡ replyAt (now (d .entry)) o (now (s .entry)) k (meant.judge (dossierAt (now (d .entry)) o) (papers.proof (many line (now (s .entry)) 2 k))) ⌝ }
 {
     let mut clauses = [0usize; 128];
-    let mut lines = [0usize; 1024];
     promise::starts(d, o.clauses, o.nclauses, Thing::Clause, &mut clauses);
-    promise::starts(s, 2, k, Thing::Line, &mut lines);
-    judge_proof(d, o, &clauses, creds, probes, told, s, &lines, k)
+    if k <= 64 {
+        let mut short = [0usize; 64];
+        return judge_proof(d, o, &clauses, creds, probes, told, s, &mut short, k);
+    }
+    let mut lines = [0usize; 1024];
+    judge_proof(d, o, &clauses, creds, probes, told, s, &mut lines, k)
 }
 
 // The judgement of two sound papers: d has the layout o, and c has that proposal. `told` is blank, then has the dossier's answers.
