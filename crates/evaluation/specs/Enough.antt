@@ -1,4 +1,4 @@
--- Why 64 rounds are run and no more are tried. proofs/Enough.antt has it, as `enough`.
+-- Why no more than 64 rounds are run. proofs/Enough.antt has it, as `enough`.
 use Prim.Native.Nat.{ℕ}
 use mathlib.Core.Path.{_≡_}
 use mathlib.Core.Bool.{true}
