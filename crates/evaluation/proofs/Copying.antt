@@ -19,14 +19,14 @@ pub record Same (a b : List ℕ) (i : ℕ) : Type 0 where
   pub long : length a ≡ length b
   pub each : (k : ℕ) → k < i → getD a k 0 ≡ getD b k 0
 
-pub same-on : (a b : List ℕ) (i : ℕ) → Same a b i → i < length b → Same (set a i (getD b i 0)) b (i + 1)
+same-on : (a b : List ℕ) (i : ℕ) → Same a b i → i < length b → Same (set a i (getD b i 0)) b (i + 1)
 same-on a b i h l =
     record {
       long = length-set a i (getD b i 0) ∙ h .long;
       each = below-more _ _ (λ k m. let z : k ≡ i → ⊥ = omega arith in getD-set-other a i k (getD b i 0) 0 z ∙ h .each k m) (getD-set-same a i (getD b i 0) 0 (omega (arith, h .long)));
     }
 
-pub same-all : (a b : List ℕ) (i : ℕ) → Same a b i → length b ≤ i → a ≡ b
+same-all : (a b : List ℕ) (i : ℕ) → Same a b i → length b ≤ i → a ≡ b
 same-all a b i h l = ext-getD 0 a b (h .long) (λ k m. h .each k (omega (arith, h .long)))
 
 -- src is copied to dst below i; beyond, dst is as it was; and alike tells whether it was the same as src
