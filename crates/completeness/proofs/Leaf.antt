@@ -10,7 +10,7 @@ use lib.ListN.{length}
 use Rattle.meaning.specs.Tests.{_∈_, _and_, _or_, agree, _is_, all, any, mem, at}
 use Rattle.meaning.specs.Policy.{Clause, Policy}
 use Rattle.meaning.specs.Formula.{Formula, always, atom, neg, conj, disj, read, truth}
-use Rattle.meaning.specs.Papers.{Entry, Marked, Dossier, policy, visible, answer, Statement, Literal, Rule, Line, witness}
+use Rattle.meaning.specs.Papers.{Entry, Marked, Dossier, policy, visible, answer, Statement, Literal, Rule, number, Line, witness}
 use Rattle.meaning.specs.Looks.{aim}
 use Rattle.meaning.specs.Rules.{supposed, not₃, and₃, or₃, value, _gives_, denied, fires, claims, omit, follows}
 use Rattle.meaning.specs.Verdict.{opaque}
@@ -21,7 +21,7 @@ use Rattle.meaning.proofs.Truth.{value-tested, alike-tested}
 use Rattle.meaning.proofs.Verdict.{own-visible, tried-visible, judge-exactly}
 use Rattle.completeness.specs.Form.{size, AtomsBelow, WellFormed}
 use Rattle.completeness.specs.Complete.{SomeWitness}
-use Rattle.completeness.specs.Needed.{number, enough}
+use Rattle.completeness.specs.Needed.{enough}
 use Rattle.completeness.proofs.Lists.{flatMap-of, mem-of, upTo, upTo-of}
 use Rattle.completeness.proofs.Tree.{lit, isIn-of, Known, known-at, gives-at}
 use Rattle.completeness.proofs.Statements.{st, Part, part-omit, statements, statement-of, part-cred}

@@ -7,11 +7,11 @@ use Prim.Native.Nat.{ℕ, zero, suc}
 use Rattle.meaning.specs.Tests.{_∈_, _is_, all, at, named}
 use Rattle.meaning.specs.Policy.{Clause, fact}
 use Rattle.meaning.specs.Formula.{atom}
-use Rattle.meaning.specs.Papers.{Dossier, Statement, Literal, Rule, Line}
+use Rattle.meaning.specs.Papers.{Dossier, Statement, Literal, Rule, number, Line}
 use Rattle.meaning.specs.Rules.{denied, fires, follows, earlier}
 use Rattle.meaning.specs.Verdict.{ProofAccepted}
 use Rattle.meaning.proofs.Tests.{and-both, and-of, named-at, named-of, at-mem}
-use Rattle.completeness.specs.Needed.{number, enough, Needed, NeededExactly}
+use Rattle.completeness.specs.Needed.{enough, Needed, NeededExactly}
 use Rattle.meaning.proofs.Example.{compute, clauseOf, entryOf, withProbes, t1}
 use Rattle.completeness.proofs.Tree.{gives-at}
 use Rattle.completeness.proofs.Complete.{sevenEnough}

@@ -10,14 +10,14 @@ use native.Mathlib.Decide.{decLt}
 use lib.ListN.{length, length-append}
 use lib.Seq.{take-append-le, take-append-seam}
 use Rattle.meaning.specs.Tests.{_∈_, _or_, _is_, all, any, mem, at, choose}
-use Rattle.meaning.specs.Papers.{Dossier, Statement, Literal, Rule, Line}
+use Rattle.meaning.specs.Papers.{Dossier, Statement, Literal, Rule, number, Line}
 use Rattle.meaning.specs.Rules.{sameStatement, supposed, _gives_, isIn, others, follows, earlier, lineFollows}
 use Rattle.meaning.specs.Verdict.{lastEmpty}
 use Rattle.meaning.specs.Demands.{EachFollows}
 use Rattle.meaning.proofs.Tests.{and-of, agree→≡, agree-of, is-refl, mem-at, named-at, named-of, all-of, any-of, at-append}
 use Rattle.meaning.proofs.Sound.{sameStatement→≡, sameStatement-refl}
 use Rattle.completeness.specs.Form.{Pairwise}
-use Rattle.completeness.specs.Needed.{number, enough}
+use Rattle.completeness.specs.Needed.{enough}
 
 -- ---- literals
 

@@ -9,14 +9,13 @@ use native.Mathlib.Omega.{arith}
 use lib.ListN.{length}
 use Rattle.meaning.specs.Tests.{_∈_, _is_, any, at}
 use Rattle.meaning.specs.Policy.{Policy}
-use Rattle.meaning.specs.Papers.{Dossier, Literal, Rule, Line, proof}
+use Rattle.meaning.specs.Papers.{Dossier, Literal, Rule, number, Line, proof}
 use Rattle.meaning.specs.Rules.{follows, earlier, lineFollows}
 use Rattle.meaning.specs.Verdict.{detectable, lastEmpty, WitnessAccepted, ProofAccepted}
 use Rattle.meaning.specs.Demands.{When}
 use Rattle.meaning.proofs.Tests.{cases, clash, is→≡, is-refl, any-at, none-at, named-at, named-of, named-is, at-mem, at-below}
 use Rattle.meaning.proofs.Verdict.{judge-exactly}
 use Rattle.meaning.proofs.Demands.{notBoth, witnessShows, demand3}
-use Rattle.completeness.specs.Needed.{number}
 
 abbrev pub Uses : ℕ → List Line → Type 0
 Uses k lines = (l : Line) × l ∈ lines × (number (l .rule) ≡ k)

@@ -8,12 +8,11 @@ use Prim.Native.Nat.{ℕ, zero, suc, _<_}
 use native.Mathlib.Omega.{arith}
 use Rattle.meaning.specs.Tests.{_∈_, _or_, agree, _is_, same, all, any, mem, at}
 use Rattle.meaning.specs.Policy.{Clause}
-use Rattle.meaning.specs.Papers.{Statement, Literal, Rule, Line}
+use Rattle.meaning.specs.Papers.{Statement, Literal, Rule, number, Line}
 use Rattle.meaning.specs.Rules.{fires, isIn, others, follows, earlier}
 use Rattle.meaning.specs.Verdict.{ProofAccepted}
 use Rattle.meaning.proofs.Tests.{clash, not-true, not-opposite, and-both, and-five, or-cases, or-left, or-right, agree→≡, agree-not, is→≡, all-at, any-at, none-at, named-at, at-mem, at-take}
 use Rattle.meaning.proofs.Sound.{sameStatement→≡}
-use Rattle.completeness.specs.Needed.{number}
 use Rattle.completeness.proofs.Tree.{gives-at}
 use Rattle.meaning.proofs.Example.{compute}
 use Rattle.completeness.proofs.Sample.{sample, two, sample-probe, sample-secret, sample-clauses, sample-creds, sample-without}

@@ -4,22 +4,11 @@ use mathlib.Core.List.{List, [], _∷_}
 use mathlib.Core.Logic.{_↔_}
 use Prim.Native.Nat.{ℕ}
 use Rattle.meaning.specs.Tests.{_∈_}
-use Rattle.meaning.specs.Papers.{Dossier, Literal, Rule, Line}
+use Rattle.meaning.specs.Papers.{Dossier, Literal, number, Line}
 use Rattle.meaning.specs.Looks.{Detectable}
 use Rattle.meaning.specs.Verdict.{ProofAccepted}
 use Rattle.completeness.specs.Form.{WellFormed, LineForm}
 use Rattle.completeness.specs.Complete.{ProofBy}
-
--- "rule (1 to 8)"
-unfoldable pub number : Rule → ℕ
-number (Rule.probe k) = 1
-number Rule.secret = 2
-number (Rule.clause i j) = 3
-number (Rule.assumed j) = 4
-number (Rule.credential c j) = 5
-number (Rule.cut j i) = 6
-number (Rule.without c i j k) = 7
-number (Rule.resolve u v i j) = 8
 
 -- all but rule 4
 unfoldable pub enough : List ℕ
