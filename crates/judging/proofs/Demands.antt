@@ -52,7 +52,7 @@ module _ (d : List ℕ) (o : Layout) (c : List ℕ) (k : ℕ) where
   opaque-only meant.opaque h = refl
   opaque-only meant.detectable h = absurd (omega arith)
   opaque-only (meant.probeDiffers j) h = absurd (omega arith)
-  opaque-only meant.secretTrue h = absurd (omega arith)
+  opaque-only meant.secretKept h = absurd (omega arith)
   opaque-only (meant.lineFails j) h = absurd (omega arith)
   opaque-only meant.lastNotEmpty h = absurd (omega arith)
 
@@ -61,7 +61,7 @@ module _ (d : List ℕ) (o : Layout) (c : List ℕ) (k : ℕ) where
   detectable-only meant.opaque h = absurd (omega arith)
   detectable-only meant.detectable h = refl
   detectable-only (meant.probeDiffers j) h = absurd (omega arith)
-  detectable-only meant.secretTrue h = absurd (omega arith)
+  detectable-only meant.secretKept h = absurd (omega arith)
   detectable-only (meant.lineFails j) h = absurd (omega arith)
   detectable-only meant.lastNotEmpty h = absurd (omega arith)
 
@@ -79,13 +79,13 @@ module _ (D : Dossier) (f : DossierForm D) where
   abbrev told : List ℕ → Certificate → meant.Outcome → Reply
   told c C x = replyAt (codeDossier D) (layoutOf D) c (sizeOf (proposalOf C)) x
 
-  read-first : (c : List ℕ) → judgeOf (codeDossier D) c ≡ judgeProposal (codeDossier D) D c (certificate (length (D .labels)) (length (D .creds)) c)
+  read-first : (c : List ℕ) → judgeOf (codeDossier D) c ≡ judgeProposal meant.judge (codeDossier D) D c (certificate (length (D .labels)) (length (D .creds)) c)
   unfolding judgeOf judgeRead
-  read-first c = ap (λ (x : Out Dossier). judgeRead (codeDossier D) x c) (dossierAccepted D f)
+  read-first c = ap (λ (x : Out Dossier). judgeRead meant.judge (codeDossier D) x c) (dossierAccepted D f)
 
   pub judged : (C : Certificate) → SoundFor D C → judgeOf (codeDossier D) (codeCertificate C) ≡ told (codeCertificate C) C (meant.judge D C)
   unfolding judgeProposal
-  judged C g = read-first (codeCertificate C) ∙ ap (λ (x : Out Certificate). judgeProposal (codeDossier D) D (codeCertificate C) x) (certificateAccepted (length (D .labels)) (length (D .creds)) C g)
+  judged C g = read-first (codeCertificate C) ∙ ap (λ (x : Out Certificate). judgeProposal meant.judge (codeDossier D) D (codeCertificate C) x) (certificateAccepted (length (D .labels)) (length (D .creds)) C g)
 
   -- words that are not refused are a sound certificate's
   record Meant (c : List ℕ) : Type 0 where
@@ -94,11 +94,11 @@ module _ (D : Dossier) (f : DossierForm D) where
     sound : SoundFor D C
     reply : judgeOf (codeDossier D) c ≡ told c C (meant.judge D C)
 
-  not-refused : (c : List ℕ) (out : Out Certificate) → certificate (length (D .labels)) (length (D .creds)) c ≡ out → (tag (judgeProposal (codeDossier D) D c out .verdict) < 2) → Meant c
+  not-refused : (c : List ℕ) (out : Out Certificate) → certificate (length (D .labels)) (length (D .creds)) c ≡ out → (tag (judgeProposal meant.judge (codeDossier D) D c out .verdict) < 2) → Meant c
   unfolding judgeProposal tag
   not-refused c (got C q) e h =
       let s = certificateSound (length (D .labels)) (length (D .creds)) c C q e in
-      record { C = C; words = s .0; sound = s .1; reply = read-first c ∙ ap (λ (x : Out Certificate). judgeProposal (codeDossier D) D c x) e }
+      record { C = C; words = s .0; sound = s .1; reply = read-first c ∙ ap (λ (x : Out Certificate). judgeProposal meant.judge (codeDossier D) D c x) e }
   not-refused c (bad e p w) g h = absurd (omega arith)
 
   accepted-meant : (c : List ℕ) → tag (judgeOf (codeDossier D) c .verdict) < 2 → Meant c

@@ -35,21 +35,21 @@ use Rattle.judging.proofs.Sound.{sound-paper, offered-paper, atoms-are,
 
 pub judge-refused : (d c : List ℕ) {e p w : ℕ} {r : Reply} → dossier d ≡ bad e p w → r ≡ refused e paper.Dossier p w → r ≡ judgeOf d c
 unfolding judgeOf judgeRead
-judge-refused d c h g = g ∙ ap (λ (x : Out Dossier). judgeRead d x c) (sym h)
+judge-refused d c h g = g ∙ ap (λ (x : Out Dossier). judgeRead meant.judge d x c) (sym h)
 
 module _ (d c : List ℕ) (o : Layout) (s : Sound d o) where
   D : Dossier
   D = s .paper
 
-  asked : judgeOf d c ≡ judgeProposal d D c (certificate (o .atoms) (o .ncreds) c)
+  asked : judgeOf d c ≡ judgeProposal meant.judge d D c (certificate (o .atoms) (o .ncreds) c)
   unfolding judgeOf judgeRead D
   asked =
-      ap (λ (x : Out Dossier). judgeRead d x c) (s .isRead)
-      ∙ ap₂ (λ (n m : ℕ). judgeProposal d (s .paper) c (certificate n m c)) (sym (atoms-are d o s)) (sym (creds-are d o s))
+      ap (λ (x : Out Dossier). judgeRead meant.judge d x c) (s .isRead)
+      ∙ ap₂ (λ (n m : ℕ). judgeProposal meant.judge d (s .paper) c (certificate n m c)) (sym (atoms-are d o s)) (sym (creds-are d o s))
 
   pub judge-unsound : {e p w : ℕ} {r : Reply} → certificate (o .atoms) (o .ncreds) c ≡ bad e p w → r ≡ refused e paper.Certificate p w → r ≡ judgeOf d c
   unfolding judgeProposal
-  judge-unsound h g = g ∙ ap (λ (x : Out Certificate). judgeProposal d D c x) (sym h) ∙ sym asked
+  judge-unsound h g = g ∙ ap (λ (x : Out Certificate). judgeProposal meant.judge d D c x) (sym h) ∙ sym asked
 
   pub judge-meant : (x : Proposal) → Offered (o .atoms) (o .ncreds) c x → {r : Reply} → r ≡ replyAt d o c (sizeOf x) (meant.judge (dossierAt d o) (certificateAt (o .atoms) c x)) → r ≡ judgeOf d c
   unfolding judgeProposal D
@@ -59,7 +59,7 @@ module _ (d c : List ℕ) (o : Layout) (s : Sound d o) where
       ∙ ap (λ (y : Certificate). replyAt d o c (sizeOf x) (meant.judge (s .paper) y)) (offered-paper (o .atoms) (o .ncreds) c x f)
       ∙ ap (λ (y : Layout). replyAt d y c (sizeOf x) (meant.judge (s .paper) (f .paper))) (s .layout)
       ∙ ap (λ (y : Proposal). replyAt d (layoutOf (s .paper)) c (sizeOf y) (meant.judge (s .paper) (f .paper))) (f .proposal)
-      ∙ ap (λ (y : Out Certificate). judgeProposal d (s .paper) c y) (sym (f .isRead))
+      ∙ ap (λ (y : Out Certificate). judgeProposal meant.judge d (s .paper) c y) (sym (f .isRead))
       ∙ sym asked
 
 -- ---- answers

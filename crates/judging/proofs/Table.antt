@@ -81,15 +81,15 @@ module _ {d c : List ℕ} {D : papers.Dossier} {C : papers.Certificate} (b : Bot
 module _ (d c : List ℕ) where
   row-gives : (r : Reply) (us : List ℕ) → Row d c r us → Gives d c r us
   unfolding judgeOf judgeRead judgeProposal shownOf replyAt showing nextOf layoutOf proposalOf
-  row-gives r us (Row.inDossier s) = (ap (λ (x : Out papers.Dossier). judgeRead d x c) (sym (dossierRows d _ _ us s)), shown-part (row-shows s))
+  row-gives r us (Row.inDossier s) = (ap (λ (x : Out papers.Dossier). judgeRead meant.judge d x c) (sym (dossierRows d _ _ us s)), shown-part (row-shows s))
   row-gives r us (Row.inCertificate D e f s) = (
-    ap (λ (x : Out papers.Certificate). judgeProposal d D c x) (sym (certificateRows _ _ c _ _ us s)) ∙ ap (λ (x : Out papers.Dossier). judgeRead d x c) (sym (sound-read d D e f)),
+    ap (λ (x : Out papers.Certificate). judgeProposal meant.judge d D c x) (sym (certificateRows _ _ c _ _ us s)) ∙ ap (λ (x : Out papers.Dossier). judgeRead meant.judge d x c) (sym (sound-read d D e f)),
     shown-part (certificate-shows s),
   )
   row-gives r us (Row.opaque D W b w) = gives b meant.opaque w refl (fits _ 0 0 (omega arith))
   row-gives r us (Row.detectable D ls b w) = gives b meant.detectable w refl (fits _ 0 0 (omega arith))
   row-gives r us (Row.probe D W k e b w h) = let s = probe-stands D (b .form) k e h in gives b (meant.probeDiffers k) w (refused-at 14 Dossier (entries D (b .form)) _ _ _ _ s) (s .shown)
-  row-gives r us (Row.secret D W b w) = let s = secret-stands D (b .form) in gives b meant.secretTrue w (refused-at 15 Dossier (entries D (b .form)) _ _ _ _ s) (s .shown)
+  row-gives r us (Row.secret D W b w) = let s = secret-stands D (b .form) in gives b meant.secretKept w (refused-at 15 Dossier (entries D (b .form)) _ _ _ _ s) (s .shown)
   row-gives r us (Row.line D ls k l b w h) = let s = line-stands D ls (b .sound) k l h in gives b (meant.lineFails k) w (refused-at 16 Certificate line _ _ _ _ s) (s .shown)
   row-gives r us (Row.last D ls l b w h) = let s = line-stands D ls (b .sound) (length ls - 1) l h in gives b meant.lastNotEmpty w (refused-at 17 Certificate line _ _ _ _ s) (s .shown)
 
@@ -102,7 +102,7 @@ module _ (d c : List ℕ) where
   unfolding When PartsForm
   by-meaning D (witness W) b meant.opaque w = (_, (_, Row.opaque D W b w))
   by-meaning D (witness W) b (meant.probeDiffers k) w = let (e, h, n) = w .here in (_, (_, Row.probe D W k e b w h))
-  by-meaning D (witness W) b meant.secretTrue w = (_, (_, Row.secret D W b w))
+  by-meaning D (witness W) b meant.secretKept w = (_, (_, Row.secret D W b w))
   by-meaning D (witness W) b meant.detectable w = absurd w
   by-meaning D (witness W) b (meant.lineFails k) w = absurd w
   by-meaning D (witness W) b meant.lastNotEmpty w = absurd w
@@ -111,7 +111,7 @@ module _ (d c : List ℕ) where
   by-meaning D (proof ls) b meant.lastNotEmpty w = let (l, h) = below-at ls (length ls - 1) (omega (arith, b .sound .parts .least)) in (_, (_, Row.last D ls l b w h))
   by-meaning D (proof ls) b meant.opaque w = absurd w
   by-meaning D (proof ls) b (meant.probeDiffers k) w = absurd w
-  by-meaning D (proof ls) b meant.secretTrue w = absurd w
+  by-meaning D (proof ls) b meant.secretKept w = absurd w
 
   by-certificate : (D : papers.Dossier) (q : ℕ) → dossier d ≡ got D q → (out : Out papers.Certificate) → certificate (length (D .labels)) (length (D .creds)) c ≡ out → Applies
   by-certificate D q h (got C t) e =

@@ -42,15 +42,16 @@ SaysOpaque d c = judgeOf d c ≡ accepted verdict.Opaque
 abbrev pub SaysDetectable : List ℕ → List ℕ → Type 0
 SaysDetectable d c = judgeOf d c ≡ accepted verdict.Detectable
 
--- "Both papers sound in form: a witness is accepted exactly when, with the visible clauses, it answers every probe as the dossier's policy does and makes the secret
--- false, by the published Datalog meaning. A proof is accepted exactly when each line follows by its stated rule and the last is empty." (`When` has both, by rows.)
+-- "Both papers sound in form: a witness is accepted exactly when, with the visible clauses, it answers every probe as the dossier's policy does and" gives the secret
+-- "the opposite value" (A2) of that policy's, "by the published Datalog meaning. A proof is accepted exactly when each line follows by its stated rule and the last is
+-- empty." (`When` has both, by rows.)
 abbrev pub Demand2 : Type 0
 Demand2 =
     (D : Dossier) (C : Certificate) → DossierForm D → SoundFor D C
     → (SaysOpaque (codeDossier D) (codeCertificate C) ↔ When D C meant.opaque) × (SaysDetectable (codeDossier D) (codeCertificate C) ↔ When D C meant.detectable)
 
 pub record Demand3 : Type 0 where
-  -- "If a proof is accepted for D, every policy of any length with D's visible clauses and D's probe answers makes the secret true."
+  -- "If a proof is accepted for D," in "every policy of any length with D's visible clauses and D's probe answers" the secret "has the policy's value" (A2).
   pub every : (D : Dossier) → DossierForm D → (c : List ℕ) → SaysDetectable (codeDossier D) c → Detectable D
   -- "With E = D plus credentials or probes added after D's own, or more clauses marked visible (both well formed): the proof is accepted for E"
   pub proofStays : (D E : Dossier) → Extends D E → DossierForm D → DossierForm E → (c : List ℕ) → SaysDetectable (codeDossier D) c → SaysDetectable (codeDossier E) c

@@ -17,18 +17,22 @@ use Rattle.reply.specs.declared.Paper.the-variants.{Dossier, Certificate}
 use Rattle.reply.specs.declared.Reply.{Reply}
 use Rattle.verdict.specs.Told.{replyAt, sizeOf}
 
+-- what gives the outcome of two decoded papers
+abbrev pub Judge : Type 0
+Judge = papers.Dossier → papers.Certificate → meant.Outcome
+
 -- with the dossier D read from d, and what was read from c
-unfoldable pub judgeProposal : List ℕ → papers.Dossier → List ℕ → Out papers.Certificate → Reply
-judgeProposal d D c (got C q) = replyAt d (layoutOf D) c (sizeOf (proposalOf C)) (meant.judge D C)
-judgeProposal d D c (bad e p w) = refused e Certificate p w
+unfoldable pub judgeProposal : Judge → List ℕ → papers.Dossier → List ℕ → Out papers.Certificate → Reply
+judgeProposal judge d D c (got C q) = replyAt d (layoutOf D) c (sizeOf (proposalOf C)) (judge D C)
+judgeProposal judge d D c (bad e p w) = refused e Certificate p w
 
 -- with what was read from d
-unfoldable pub judgeRead : List ℕ → Out papers.Dossier → List ℕ → Reply
-judgeRead d (got D q) c = judgeProposal d D c (certificate (length (D .labels)) (length (D .creds)) c)
-judgeRead d (bad e p w) c = refused e Dossier p w
+unfoldable pub judgeRead : Judge → List ℕ → Out papers.Dossier → List ℕ → Reply
+judgeRead judge d (got D q) c = judgeProposal judge d D c (certificate (length (D .labels)) (length (D .creds)) c)
+judgeRead judge d (bad e p w) c = refused e Dossier p w
 
 unfoldable pub judgeOf : List ℕ → List ℕ → Reply
-judgeOf d c = judgeRead d (dossier d) c
+judgeOf d c = judgeRead meant.judge d (dossier d) c
 
 -- d was read as a dossier, whose sections stand as o says; c as a certificate, which proposes x
 pub record Sound (d : List ℕ) (o : Layout) : Type 0 where

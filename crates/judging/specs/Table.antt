@@ -50,8 +50,8 @@ pub data Row (d c : List ℕ) : Reply → List ℕ → Type 0 where
   -- 14: "witness: a probe's answer differs": "that probe in the dossier", probe k, after the probes before it
   probe : (D : papers.Dossier) (W : Policy) (k : ℕ) (e : Entry) → Both d c D (witness W) → When D (witness W) (meant.probeDiffers k) → at (D .probes) k ≡ some e
       → Row d c (refused 14 Dossier (probesAt D + 1 + length (codeAll codeEntry (take k (D .probes)))) (length (codeEntry e))) (codeEntry e)
-  -- 15: "witness: the secret is true": "the secret in the dossier"
-  secret : (D : papers.Dossier) (W : Policy) → Both d c D (witness W) → When D (witness W) meant.secretTrue
+  -- 15: "when the witness gives the secret the policy's value" (A2): "the secret in the dossier"
+  secret : (D : papers.Dossier) (W : Policy) → Both d c D (witness W) → When D (witness W) meant.secretKept
       → Row d c (refused 15 Dossier (secretAt D + 1) (length (codeEntry (D .secret)))) (codeEntry (D .secret))
   -- 16: "a line doesn't follow": "that line", line k, after the lines before it
   line : (D : papers.Dossier) (ls : List Line) (k : ℕ) (l : Line) → Both d c D (proof ls) → When D (proof ls) (meant.lineFails k) → at ls k ≡ some l

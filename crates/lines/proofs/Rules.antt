@@ -1,6 +1,6 @@
--- The rule by its number, the aim of rule 2, and the answer that rule 1 opposes.
+-- The rule by its number, and the answer that rule 1 opposes.
 use Prim.Native.Nat.{ℕ, _+_, _<_, _≤_}
-use mathlib.Core.Path.{_≡_, refl, ap, _∙_}
+use mathlib.Core.Path.{_≡_, refl}
 use mathlib.Core.List.{List}
 use mathlib.Core.Bool.{Bool, true, false, not}
 use native.Mathlib.Omega.{arith}
@@ -8,18 +8,12 @@ use lib.Dec.{eqb, ltb}
 use lib.ListN.{length, getD}
 use borrow.Author.Tests.{ne-eqb, eqb-false, le-ltb, ltb-true}
 use Rattle.meaning.specs.Tests.{_is_, choose}
-use Rattle.meaning.specs.Papers.{Dossier, Line, Rule, probe, secret, clause, assumed, credential, cut, without, resolve}
-use Rattle.meaning.specs.Looks.{aim}
+use Rattle.meaning.specs.Papers.{Dossier, Line, probe, secret, clause, assumed, credential, cut, without, resolve}
 use Rattle.meaning.specs.Rules.{follows}
 use Rattle.promise.specs.Code.{bit}
 use Rattle.promise.specs.Line.{dataCount, ruleOf, lineAt, lineOf, literalsOf, LineFits}
 use Rattle.promise.specs.declared.LineAt.{LineAt}
 use Rattle.lines.specs.Named.{LiteralsFit}
-
--- rule 2 shows the secret true: the one place that knows it
-pub aimed : (D : Dossier) → true ≡ aim D
-unfolding aim
-aimed D = refl
 
 -- rule 1 asks for the opposite of the answer that the table has
 pub opposite : (a : Bool) {x : ℕ} → x ≡ bit a → eqb x 0 ≡ not a
@@ -112,5 +106,5 @@ module _ (ws : List ℕ) (q : ℕ) {v : LineAt} (h : v ≡ lineAt ws q) where
   pub line-fits : LineFits ws q → LiteralsFit ws v × (v .args + dataCount (v .rule) ≤ length ws) × (0 < v .rule)
   line-fits g = rw h (g .literals, omega (arith, g .head), g .rule)
 
-  pub line-seen : (D : Dossier) (before : List Line) {r : Bool} {x : Rule} → r ≡ follows D before (literalsOf ws v) x → x ≡ ruleOf ws (v .rule) (v .args) → r ≡ follows D before (lineOf ws (lineAt ws q) .literals) (lineOf ws (lineAt ws q) .rule)
-  line-seen D before {r} {x} g e = rw h at (g ∙ ap (follows D before (literalsOf ws v)) e)
+  pub line-seen : (D : Dossier) (before : List Line) {r : Bool} → r ≡ follows D before (literalsOf ws v) (ruleOf ws (v .rule) (v .args)) → r ≡ follows D before (lineOf ws (lineAt ws q) .literals) (lineOf ws (lineAt ws q) .rule)
+  line-seen D before g = rw h at g

@@ -1,11 +1,13 @@
--- What the rules stand on: the dossier's words as laid out, where each clause, credential and probe begins, and each probe's answer.
+-- What the rules stand on: the dossier's words as laid out, where each clause, credential and probe begins, each probe's answer, and the value of the secret that a proof shows.
 use Prim.Native.Nat.{ℕ, _≤_}
 use mathlib.Core.Path.{_≡_}
+use mathlib.Core.Bool.{Bool}
 use mathlib.Core.List.{List}
 use mathlib.Core.Option.{some}
 use lib.ListN.{length, getD}
 use Rattle.meaning.specs.Tests.{at}
 use Rattle.meaning.specs.Papers.{Entry, policy, answer}
+use Rattle.meaning.specs.Looks.{aim}
 use Rattle.promise.specs.Code.{bit}
 use Rattle.promise.specs.Place.{Starts}
 use Rattle.promise.specs.Clause.{credential, marked}
@@ -31,10 +33,11 @@ LineStarts s n t = Starts (line .next s) 2 n t
 abbrev pub Told : List ℕ → Layout → List ℕ → Type 0
 Told d o table = (j : ℕ) (e : Entry) → at (dossierAt d o .probes) j ≡ some e → getD table j 0 ≡ bit (answer (dossierAt d o) (policy (dossierAt d o)) e)
 
-pub record Ready (d : List ℕ) (o : Layout) (atClause atCred atProbe answers : List ℕ) : Type 0 where
+pub record Ready (d : List ℕ) (o : Layout) (atClause atCred atProbe answers : List ℕ) (goal : Bool) : Type 0 where
   pub laid : Laid d o
   pub clauses : ClauseStarts d o atClause
   pub creds : CredStarts d o atCred
   pub probes : ProbeStarts d o atProbe
   pub long : o .nprobes ≤ length answers
   pub told : Told d o answers
+  pub aimed : goal ≡ aim (dossierAt d o)

@@ -23,6 +23,7 @@ ghost use lib.ListN.{length};
 ghost use Rattle.meaning.specs.Tests.{_and_, _or_, _is_, agree, same, all, choose, mem, at, named};
 ghost use Rattle.meaning.specs.Formula.{read};
 ghost use Rattle.meaning.specs.Papers.{Dossier, Line, Rule};
+ghost use Rattle.meaning.specs.Looks.{aim};
 ghost use Rattle.meaning.specs.Rules.{sameStatement, supposed, value, _gives_, isIn, denied, fires, claims, omit, others, follows};
 ghost use Rattle.promise.specs.Place.{part, many, Fit, Starts};
 ghost use Rattle.promise.specs.Clause.{clauseOf};
@@ -486,12 +487,12 @@ fn probe_follows(
     entry_gives(d, q, s, v, word(answers, i) == 0)
 }
 
-// Rule 2. It shows the secret true.
-fn secret_follows(d: &[u16], o: Layout, s: &[u16], v: LineAt) -> bool
-    requires { ⌜ Laid (now d) o × LiteralsFit (now s) v ⌝ }
+// Rule 2. It shows that the secret has the value `goal`, the one that it has in the dossier's policy.
+fn secret_follows(d: &[u16], o: Layout, goal: bool, s: &[u16], v: LineAt) -> bool
+    requires { ⌜ Laid (now d) o × (goal ≡ aim (dossierAt (now d) o)) × LiteralsFit (now s) v ⌝ }
     ensures { λ r. ⌜ ((e : List Line) → r ≡ follows (dossierAt (now (d .entry)) o) e (literalsOf (now (s .entry)) v) Rule.secret) ⌝ }
 {
-    entry_gives(d, o.secret, s, v, true)
+    entry_gives(d, o.secret, s, v, goal)
 }
 
 // Whether l is positive on the head of c, and each body atom has a negative literal that shares with l.
@@ -781,16 +782,17 @@ fn plain_follows(
     creds: &[usize],
     probes: &[usize],
     answers: &[u16],
+    goal: bool,
     s: &[u16],
     v: LineAt,
 ) -> bool
-    requires { ⌜ Ready (now d) o (now clauses) (now creds) (now probes) (now answers) × LiteralsFit (now s) v × (v .args + dataCount (v .rule) ≤ length (now s)) × (0 < v .rule) × (v .rule < 7) ⌝ }
+    requires { ⌜ Ready (now d) o (now clauses) (now creds) (now probes) (now answers) goal × LiteralsFit (now s) v × (v .args + dataCount (v .rule) ≤ length (now s)) × (0 < v .rule) × (v .rule < 7) ⌝ }
     ensures { λ r. ⌜ ((e : List Line) → r ≡ follows (dossierAt (now (d .entry)) o) e (literalsOf (now (s .entry)) v) (ruleOf (now (s .entry)) (v .rule) (v .args))) ⌝ }
 {
     let x = v.rule;
     let a = v.args;
     if x == 2 {
-        return secret_follows(d, o, s, v);
+        return secret_follows(d, o, goal, s, v);
     }
     let g = word(s, a);
     if x == 1 {
@@ -809,28 +811,20 @@ fn plain_follows(
     cut_follows(d, o, creds, s, v, g, h)
 }
 
-// Whether the line at q follows, after the n lines of the table.
-pub fn line_follows(
+// Rules 7 and 8, which have four data words.
+fn wide_follows(
     d: &[u16],
     o: Layout,
-    clauses: &[usize],
     creds: &[usize],
-    probes: &[usize],
-    answers: &[u16],
     s: &[u16],
     lines: &[usize],
     n: usize,
-    q: usize,
+    v: LineAt,
 ) -> bool
-    requires { ⌜ Ready (now d) o (now clauses) (now creds) (now probes) (now answers) × Starts (line .next (now s)) 2 n (now lines) × Fit line (now s) 2 n × LineFits (now s) q ⌝ }
-    ensures { λ r. ⌜ r ≡ follows (dossierAt (now (d .entry)) o) (many line (now (s .entry)) 2 n)
-        (lineOf (now (s .entry)) (lineAt (now (s .entry)) q) .literals) (lineOf (now (s .entry)) (lineAt (now (s .entry)) q) .rule) ⌝ }
+    requires { ⌜ Laid (now d) o × CredStarts (now d) o (now creds) × LineStarts (now s) n (now lines) × Fit line (now s) 2 n × LiteralsFit (now s) v × (v .args + dataCount (v .rule) ≤ length (now s)) × (7 ≤ v .rule) ⌝ }
+    ensures { λ r. ⌜ r ≡ follows (dossierAt (now (d .entry)) o) (many line (now (s .entry)) 2 n) (literalsOf (now (s .entry)) v) (ruleOf (now (s .entry)) (v .rule) (v .args)) ⌝ }
 {
-    let v = line_at(s, q);
     let x = v.rule;
-    if x < 7 {
-        return plain_follows(d, o, clauses, creds, probes, answers, s, v);
-    }
     let a = v.args;
     let g = word(s, a);
     let h = word(s, a + 1);
@@ -840,4 +834,29 @@ pub fn line_follows(
         return without_follows(d, o, creds, s, v, g, h, i, j);
     }
     resolve_follows(s, lines, n, v, g, h, i, j)
+}
+
+// Whether the line at q follows, after the n lines of the table.
+pub fn line_follows(
+    d: &[u16],
+    o: Layout,
+    clauses: &[usize],
+    creds: &[usize],
+    probes: &[usize],
+    answers: &[u16],
+    goal: bool,
+    s: &[u16],
+    lines: &[usize],
+    n: usize,
+    q: usize,
+) -> bool
+    requires { ⌜ Ready (now d) o (now clauses) (now creds) (now probes) (now answers) goal × Starts (line .next (now s)) 2 n (now lines) × Fit line (now s) 2 n × LineFits (now s) q ⌝ }
+    ensures { λ r. ⌜ r ≡ follows (dossierAt (now (d .entry)) o) (many line (now (s .entry)) 2 n)
+        (lineOf (now (s .entry)) (lineAt (now (s .entry)) q) .literals) (lineOf (now (s .entry)) (lineAt (now (s .entry)) q) .rule) ⌝ }
+{
+    let v = line_at(s, q);
+    if v.rule < 7 {
+        return plain_follows(d, o, clauses, creds, probes, answers, goal, s, v);
+    }
+    wide_follows(d, o, creds, s, lines, n, v)
 }

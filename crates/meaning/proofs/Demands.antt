@@ -1,6 +1,6 @@
 -- The theorems of specs/Demands.antt, each under its name in small letters.
 use mathlib.Core.Path.{_≡_, refl, sym, ap, _∙_}
-use mathlib.Core.Bool.{not}
+use mathlib.Core.Bool.{not, Bool·not-not}
 use mathlib.Core.List.{List, _∷_, List·Memᴰ·head, List·Memᴰ·tail, Memᴰ·append-left}
 use Prim.Native.Nat.{suc}
 use native.Mathlib.Omega.{arith}
@@ -10,7 +10,7 @@ use Rattle.meaning.specs.Papers.{Entry, Dossier, policy, visible, answer
 use Rattle.meaning.specs.Looks.{aim, Detectable, Opaque}
 use Rattle.meaning.specs.Verdict.{opaque, detectable, tried, WitnessAccepted, ProofAccepted}
 use Rattle.meaning.specs.Extends.{Extends, WellNamed}
-use Rattle.meaning.specs.Demands.{HoldsTested, HoldsDerived, RoundsEnough, TruthTested, LooksLikeItself, NotBoth, When, WitnessShows, Demand2, Demand3}
+use Rattle.meaning.specs.Demands.{HoldsTested, HoldsDerived, RoundsEnough, TruthTested, LooksLikeItself, DetectableMeant, OpaqueMeant, NotBoth, When, WitnessShows, Demand2, Demand3}
 use Rattle.meaning.proofs.Tests.{not-self, not-opposite}
 use Rattle.meaning.proofs.Rounds.{holds-tested, holds-derived, rounds-holds}
 use Rattle.meaning.proofs.Truth.{truth-tested, value-tested, alike-tested}
@@ -35,6 +35,20 @@ truthTested = truth-tested
 
 pub looksLikeItself : LooksLikeItself
 looksLikeItself D = record { first = own-visible D; second = own-visible D; alike = λ e m. (λ y. y, λ y. y) }
+
+pub detectableMeant : DetectableMeant
+unfolding Detectable aim
+detectableMeant D = (
+  λ d Q l. alike-tested D (policy D) Q (D .secret) .1 (value-tested D Q (D .secret) _ .0 (d Q l)),
+  λ h Q l. value-tested D Q (D .secret) _ .1 (alike-tested D (policy D) Q (D .secret) .0 (h Q l)),
+)
+
+pub opaqueMeant : OpaqueMeant
+unfolding Opaque aim
+opaqueMeant D = (
+  λ o. (o .0, o .1, λ y. not-self (aim D) (sym (alike-tested D (policy D) (o .0) (D .secret) .0 y) ∙ value-tested D (o .0) (D .secret) _ .0 (o .2))),
+  λ o. (o .0, o .1, value-tested D (o .0) (D .secret) _ .1 (not-opposite _ _ λ e. o .2 (alike-tested D (policy D) (o .0) (D .secret) .1 (e ∙ Bool·not-not (aim D))))),
+)
 
 pub notBoth : NotBoth
 unfolding Detectable Opaque

@@ -1,5 +1,5 @@
 -- Demand 3 between a dossier and one that extends it: what follows for D follows for E.
-use mathlib.Core.Path.{_≡_, refl, sym, ap, ap₂}
+use mathlib.Core.Path.{_≡_, refl, sym, ap, ap₂, _∙_}
 use mathlib.Core.Bool.{true, not, true≢false}
 use mathlib.Core.List.{List, [], _∷_, _++_, map, List·Memᴰ·head, List·Memᴰ·tail}
 use mathlib.Core.Option.{some}
@@ -63,13 +63,13 @@ module _ (D E : Dossier) (x : Extends D E) (named-creds : WellNamed D) where
   unfolding policy
   policy-same = marks-policy (x .marks)
 
-  pub aim-same : aim E ≡ aim D
-  unfolding aim
-  aim-same = refl
-
   pub answer-same : (P : Policy) (e : Entry) → e ∈ (D .secret ∷ D .probes) → answer E P e ≡ answer D P e
   unfolding answer WellNamed
   answer-same P e m = rw (x .creds) (truth-more (D .creds) (x .newCreds) P (e .creds) (named-creds e m) (e .formula))
+
+  pub aim-same : aim E ≡ aim D
+  unfolding aim
+  aim-same = ap₂ (answer E) policy-same (x .secret) ∙ answer-same (policy D) (D .secret) (List·Memᴰ·head refl)
 
   follows-up : (before : List Line) (ls : List Literal) (r : Rule) → follows D before ls r ≡ true → follows E before ls r ≡ true
   unfolding follows

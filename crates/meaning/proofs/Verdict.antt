@@ -12,7 +12,7 @@ use Rattle.meaning.specs.Policy.{Clause, Policy}
 use Rattle.meaning.specs.Papers.{Entry, Marked, Dossier, policy, visible, Yes, answer, Line, Certificate, witness, proof}
 use Rattle.meaning.specs.Looks.{Has, LookTheSame, Value, aim}
 use Rattle.meaning.specs.Rules.{lineFollows}
-use Rattle.meaning.specs.Verdict.{Outcome, opaque, detectable, probeDiffers, secretTrue, lineFails, lastNotEmpty, tried, probeAgrees, lastEmpty, decide, judge}
+use Rattle.meaning.specs.Verdict.{Outcome, opaque, detectable, probeDiffers, secretKept, lineFails, lastNotEmpty, tried, probeAgrees, lastEmpty, decide, judge}
 use Rattle.meaning.specs.Demands.{Lowest, Differs, Fails, When}
 use Rattle.meaning.proofs.Tests.{clash, not-self, not-opposite, agree→≡, agree-of, keep-at, map-of, map-at, named-is, at-mem, mem-index, at-below, below-at, Found, lowest-found, found-once}
 use Rattle.meaning.proofs.Truth.{value-tested, alike-tested}
@@ -117,7 +117,7 @@ judge-when : (D : Dossier) (c : Certificate) → When D c (judge D c)
 unfolding judge When decide choose
 judge-when D (witness W) = go (lowest (probeAgrees D W) 0 (length (D .probes))) refl (hides D W) refl
   where
-    go : (o : Option ℕ) → lowest (probeAgrees D W) 0 (length (D .probes)) ≡ o → (b : Bool) → hides D W ≡ b → When D (witness W) (decide o probeDiffers b opaque secretTrue)
+    go : (o : Option ℕ) → lowest (probeAgrees D W) 0 (length (D .probes)) ≡ o → (b : Bool) → hides D W ≡ b → When D (witness W) (decide o probeDiffers b opaque secretKept)
     go (some k) e b h = lowest-at _ (probeAgrees D W) (Differs D W) (differs D W) (differs-below D W) e
     go none e true h = (looks-same D W .0 (none-at-fault _ _ e), hides-true D W .0 h)
     go none e false h = (looks-same D W .0 (none-at-fault _ _ e), hides-false D W .0 h)
@@ -132,7 +132,7 @@ judge-when D (proof lines) = go (lowest (lineFollows D lines) 0 (length lines)) 
 when-judge : (D : Dossier) (c : Certificate) (o : Outcome) → When D c o → judge D c ≡ o
 unfolding judge When decide choose
 when-judge D (witness W) opaque h = rw (none-is _ _ (looks-same D W .1 (h .0)), hides-true D W .1 (h .1))
-when-judge D (witness W) secretTrue h = rw (none-is _ _ (looks-same D W .1 (h .0)), hides-false D W .1 (h .1))
+when-judge D (witness W) secretKept h = rw (none-is _ _ (looks-same D W .1 (h .0)), hides-false D W .1 (h .1))
 when-judge D (witness W) (probeDiffers k) h = rw (lowest-is _ (probeAgrees D W) (Differs D W) (differs D W) (differs-below D W) h)
 when-judge D (witness W) detectable h = absurd h
 when-judge D (witness W) (lineFails k) h = absurd h
@@ -142,7 +142,7 @@ when-judge D (proof lines) lastNotEmpty h = rw (none-is _ _ (h .0), h .1)
 when-judge D (proof lines) (lineFails k) h = rw (lowest-is _ (lineFollows D lines) (Fails D lines) (fails-is D lines) (λ j f. f .0) h)
 when-judge D (proof lines) opaque h = absurd h
 when-judge D (proof lines) (probeDiffers k) h = absurd h
-when-judge D (proof lines) secretTrue h = absurd h
+when-judge D (proof lines) secretKept h = absurd h
 
 pub judge-exactly : (D : Dossier) (c : Certificate) (o : Outcome) → (judge D c ≡ o) ↔ When D c o
 judge-exactly D c o = (λ e. rw e at (judge-when D c), when-judge D c o)

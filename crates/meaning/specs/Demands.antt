@@ -12,7 +12,7 @@ use Rattle.meaning.specs.Formula.{Formula, Truth, truth}
 use Rattle.meaning.specs.Papers.{Entry, Dossier, policy, Yes, Line, Certificate, witness, proof}
 use Rattle.meaning.specs.Looks.{LookTheSame, Value, aim, Detectable, Opaque}
 use Rattle.meaning.specs.Rules.{lineFollows}
-use Rattle.meaning.specs.Verdict.{Outcome, opaque, detectable, probeDiffers, secretTrue, lineFails, lastNotEmpty, tried, lastEmpty, judge, WitnessAccepted, ProofAccepted}
+use Rattle.meaning.specs.Verdict.{Outcome, opaque, detectable, probeDiffers, secretKept, lineFails, lastNotEmpty, tried, lastEmpty, judge, WitnessAccepted, ProofAccepted}
 use Rattle.meaning.specs.Extends.{Extends, WellNamed}
 
 -- ---- What a policy makes true
@@ -36,6 +36,14 @@ abbrev pub TruthTested : Type 0
 TruthTested = (cs : List Clause) (P : Policy) (S : List ℕ) (f : Formula) → Truth cs P S f ↔ (truth cs P S f ≡ true)
 
 -- ---- Looks the same, detectable, opaque
+
+-- "every policy that looks the same gives the secret the value it has in the dossier's policy" (A2), with no test
+abbrev pub DetectableMeant : Type 0
+DetectableMeant = (D : Dossier) → Detectable D ↔ ((Q : Policy) → LookTheSame D (policy D) Q → (Yes D (policy D) (D .secret) ↔ Yes D Q (D .secret)))
+
+-- opaque: one does not
+abbrev pub OpaqueMeant : Type 0
+OpaqueMeant = (D : Dossier) → Opaque D ↔ ((Q : Policy) × LookTheSame D (policy D) Q × ((Yes D (policy D) (D .secret) ↔ Yes D Q (D .secret)) → ⊥))
 
 abbrev pub LooksLikeItself : Type 0
 LooksLikeItself = (D : Dossier) → LookTheSame D (policy D) (policy D)
@@ -65,7 +73,7 @@ EachFollows D lines = (k : ℕ) → k < length lines → lineFollows D lines k �
 unfoldable pub When : Dossier → Certificate → Outcome → Type 0
 When D (witness W) opaque = LookTheSame D (policy D) (tried D W) × Value (not (aim D)) (Yes D (tried D W) (D .secret))
 When D (witness W) (probeDiffers k) = Lowest (Differs D W) k
-When D (witness W) secretTrue = LookTheSame D (policy D) (tried D W) × Value (aim D) (Yes D (tried D W) (D .secret))
+When D (witness W) secretKept = LookTheSame D (policy D) (tried D W) × Value (aim D) (Yes D (tried D W) (D .secret))
 When D (witness W) detectable = ⊥
 When D (witness W) (lineFails k) = ⊥
 When D (witness W) lastNotEmpty = ⊥
@@ -74,7 +82,7 @@ When D (proof lines) (lineFails k) = Lowest (Fails D lines) k
 When D (proof lines) lastNotEmpty = EachFollows D lines × (lastEmpty lines ≡ false)
 When D (proof lines) opaque = ⊥
 When D (proof lines) (probeDiffers k) = ⊥
-When D (proof lines) secretTrue = ⊥
+When D (proof lines) secretKept = ⊥
 
 abbrev pub Demand2 : Type 0
 Demand2 = (D : Dossier) (c : Certificate) (o : Outcome) → (judge D c ≡ o) ↔ When D c o
@@ -86,7 +94,7 @@ WitnessShows = (D : Dossier) (W : Policy) → WitnessAccepted D W → Opaque D
 -- ---- Demand 3, over demand 2's acceptance
 
 pub record Demand3 : Type 0 where
-  -- "every policy of any length with D's visible clauses and D's probe answers makes the secret true"
+  -- "every policy of any length with D's visible clauses and D's probe answers": the secret "has the policy's value" (A2)
   pub every : (D : Dossier) (lines : List Line) → ProofAccepted D lines → Detectable D
   -- "the proof is accepted for E"
   pub proofStays : (D E : Dossier) → Extends D E → WellNamed D → (lines : List Line) → ProofAccepted D lines → ProofAccepted E lines

@@ -1,4 +1,4 @@
--- When a line follows (01, "When a line follows").
+-- When a line follows (01, "When a line follows"; rule 2 as request A2 has it: "with the literals false, the secret's formula takes the policy's value").
 use mathlib.Core.Bool.{Bool, true, false, not}
 use mathlib.Core.List.{List, [], _∷_}
 use mathlib.Core.Option.{Option, none, some}

@@ -15,8 +15,8 @@ pub data Outcome : Type 0 where
   opaque detectable : Outcome
   -- 14, with the probe's number
   probeDiffers : ℕ → Outcome
-  -- 15
-  secretTrue : Outcome
+  -- 15: "when the witness gives the secret the policy's value" (A2)
+  secretKept : Outcome
   -- 16, with the line's number
   lineFails : ℕ → Outcome
   -- 17
@@ -43,7 +43,7 @@ decide none fails b good bad = choose b good bad
 unfoldable pub judge : Dossier → Certificate → Outcome
 judge D (witness W) =
     decide (lowest (probeAgrees D W) 0 (length (D .probes))) probeDiffers
-    (agree (answer D (tried D W) (D .secret)) (not (aim D))) opaque secretTrue
+    (agree (answer D (tried D W) (D .secret)) (not (aim D))) opaque secretKept
 judge D (proof lines) =
     decide (lowest (lineFollows D lines) 0 (length lines)) lineFails
     (lastEmpty lines) detectable lastNotEmpty

@@ -1,13 +1,13 @@
 -- "These empty builds have to break the promise": no function that keeps the promise of `judge` or of `answers` is one of them.
 use Prim.Native.Nat.{ℕ, _≤_}
 use mathlib.Core.Path.{_≡_}
-use mathlib.Core.Bool.{true, false}
+use mathlib.Core.Bool.{true, not}
 use mathlib.Core.List.{List}
 use lib.ListN.{length}
 use Rattle.meaning.specs.Tests.{_∈_}
 use Rattle.meaning.specs.Policy.{Policy}
 use Rattle.meaning.specs.Papers.{Entry, Dossier, visible, answer, Line, witness, proof}
-use Rattle.meaning.specs.Looks.{Detectable}
+use Rattle.meaning.specs.Looks.{aim, Detectable}
 use Rattle.meaning.specs.Rules.{lineFollows}
 use Rattle.meaning.specs.Verdict.{tried, probeAgrees, lastEmpty}
 use Rattle.promise.specs.Code.{codeDossier, codeCertificate}
@@ -36,10 +36,10 @@ RefusesAll f = (d c : List ℕ) → (e : ℕ) × (p : Paper) × (a : ℕ) × (n 
 abbrev pub AlwaysDetectable : (List ℕ → List ℕ → Reply) → Type 0
 AlwaysDetectable f = (d c : List ℕ) → f d c ≡ accepted detectable
 
--- it accepts each sound witness that makes the secret false and has P, each sound proof whose last line is empty and that has Q
+-- it accepts each sound witness that gives the secret the opposite value and has P, each sound proof whose last line is empty and that has Q
 abbrev pub Trusts : (List ℕ → List ℕ → Reply) → (Dossier → Policy → Type 0) → Type 0
 Trusts f P =
-    (D : Dossier) (W : Policy) → DossierForm D → SoundFor D (witness W) → P D W → answer D (tried D W) (D .secret) ≡ false
+    (D : Dossier) (W : Policy) → DossierForm D → SoundFor D (witness W) → P D W → answer D (tried D W) (D .secret) ≡ not (aim D)
     → f (codeDossier D) (codeCertificate (witness W)) ≡ accepted Opaque
 
 abbrev pub TrustsLines : (List ℕ → List ℕ → Reply) → (Dossier → List Line → Type 0) → Type 0

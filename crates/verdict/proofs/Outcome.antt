@@ -1,6 +1,6 @@
 -- From what the searches find to the judge's outcome and its reply.
 use Prim.Native.Nat.{ℕ, _-_, _<_, _≤_}
-use mathlib.Core.Path.{_≡_, refl, sym, ap, _∙_}
+use mathlib.Core.Path.{_≡_, refl, sym, ap, ap₂, _∙_}
 use mathlib.Core.Bool.{Bool, true, false, not}
 use mathlib.Core.List.{List}
 use mathlib.Core.Option.{Option, none, some}
@@ -10,7 +10,7 @@ use Rattle.meaning.specs.Tests.{agree, at, named, choose, lowest, _is_}
 use Rattle.meaning.specs.Looks.{aim}
 use Rattle.meaning.specs.Papers.{Dossier, Line, answer, witness, proof}
 use Rattle.meaning.specs.Rules.{lineFollows}
-use Rattle.meaning.specs.Verdict.{Outcome, opaque, detectable, probeDiffers, secretTrue, lineFails, lastNotEmpty, tried, probeAgrees, lastEmpty, decide, judge}
+use Rattle.meaning.specs.Verdict.{Outcome, opaque, detectable, probeDiffers, secretKept, lineFails, lastNotEmpty, tried, probeAgrees, lastEmpty, decide, judge}
 use Rattle.promise.specs.Place.{many, place, Starts}
 use Rattle.promise.specs.Clause.{credential}
 use Rattle.promise.specs.Formula.{entry}
@@ -61,7 +61,7 @@ module _ (d : List ℕ) (o : Layout) (w : List ℕ) (k : ℕ) where
 
   -- the reply r is the one for the secret's answer in the policy tried
   abbrev Judged : Reply → Type 0
-  Judged r = r ≡ replyAt d o w k (choose (agree (answer (dossierAt d o) (tried (dossierAt d o) (many (credential (o .atoms)) w 2 k)) (dossierAt d o .secret)) (not (aim (dossierAt d o)))) opaque secretTrue)
+  Judged r = r ≡ replyAt d o w k (choose (agree (answer (dossierAt d o) (tried (dossierAt d o) (many (credential (o .atoms)) w 2 k)) (dossierAt d o .secret)) (not (aim (dossierAt d o)))) opaque secretKept)
 
   module _ {f : Fault} (e : f ≡ asFault (lowest (probeAgrees (dossierAt d o) (many (credential (o .atoms)) w 2 k)) 0 (o .nprobes))) where
     probes-many : length (D .probes) ≡ o .nprobes
@@ -76,32 +76,34 @@ module _ (d : List ℕ) (o : Layout) (w : List ℕ) (k : ℕ) where
     witness-differs {j} {r} probes s h g =
         let out : lowest (probeAgrees D (many (credential (o .atoms)) w 2 k)) 0 (length (D .probes)) ≡ some j = ap (λ (n : ℕ). lowest (probeAgrees D (many (credential (o .atoms)) w 2 k)) 0 n) probes-many ∙ fault-at e h in
         g ∙ ap (λ (p : ℕ). showing 14 paper.Dossier thing.Entry d p) (s .each j (probe-below h))
-        ∙ ap (λ (x : Option ℕ). replyAt d o w k (decide x probeDiffers (agree (answer D (tried D (many (credential (o .atoms)) w 2 k)) (D .secret)) (not (aim D))) opaque secretTrue)) (sym out)
+        ∙ ap (λ (x : Option ℕ). replyAt d o w k (decide x probeDiffers (agree (answer D (tried D (many (credential (o .atoms)) w 2 k)) (D .secret)) (not (aim D))) opaque secretKept)) (sym out)
 
     pub witness-alike : {r : Reply} → f ≡ fault.Nowhere → Judged r → r ≡ replyAt d o w k (judge (dossierAt d o) (witness (many (credential (o .atoms)) w 2 k)))
     unfolding judge decide D
     witness-alike {r} h g =
         let out : lowest (probeAgrees D (many (credential (o .atoms)) w 2 k)) 0 (length (D .probes)) ≡ none = ap (λ (n : ℕ). lowest (probeAgrees D (many (credential (o .atoms)) w 2 k)) 0 n) probes-many ∙ fault-none e h in
-        g ∙ ap (λ (x : Option ℕ). replyAt d o w k (decide x probeDiffers (agree (answer D (tried D (many (credential (o .atoms)) w 2 k)) (D .secret)) (not (aim D))) opaque secretTrue)) (sym out)
+        g ∙ ap (λ (x : Option ℕ). replyAt d o w k (decide x probeDiffers (agree (answer D (tried D (many (credential (o .atoms)) w 2 k)) (D .secret)) (not (aim D))) opaque secretKept)) (sym out)
 
-  -- the secret, by its answer
-  by-secret : (b : Bool) → choose b (showing 15 paper.Dossier thing.Entry d (o .secret)) (accepted said.Opaque) ≡ replyAt d o w k (choose (agree b (not (aim (dossierAt d o)))) opaque secretTrue)
-  unfolding replyAt choose agree aim
-  by-secret true = refl
-  by-secret false = refl
+  -- the secret, by its answer in the policy tried and its value in the dossier's own
+  by-secret : (b goal : Bool) → choose (agree b goal) (showing 15 paper.Dossier thing.Entry d (o .secret)) (accepted said.Opaque) ≡ replyAt d o w k (choose (agree b (not goal)) opaque secretKept)
+  unfolding replyAt choose agree
+  by-secret true true = refl
+  by-secret true false = refl
+  by-secret false true = refl
+  by-secret false false = refl
 
-  module _ {b : Bool} (e : b ≡ answerOf d o w (Tried k) (o .secret)) {r : Reply} where
-    secret-told : r ≡ choose b (showing 15 paper.Dossier thing.Entry d (o .secret)) (accepted said.Opaque) → Judged r
+  module _ {b goal : Bool} (e : b ≡ answerOf d o w (Tried k) (o .secret)) (f : goal ≡ aim (dossierAt d o)) {r : Reply} where
+    secret-told : r ≡ choose (agree b goal) (showing 15 paper.Dossier thing.Entry d (o .secret)) (accepted said.Opaque) → Judged r
     unfolding answerOf policyAt dossierAt
-    secret-told g = g ∙ by-secret b ∙ ap (λ (x : Bool). replyAt d o w k (choose (agree x (not (aim (dossierAt d o)))) opaque secretTrue)) e
+    secret-told g = g ∙ by-secret b goal ∙ ap₂ (λ (x y : Bool). replyAt d o w k (choose (agree x (not y)) opaque secretKept)) e f
 
-    pub secret-yes : b ≡ true → r ≡ showing 15 paper.Dossier thing.Entry d (o .secret) → Judged r
+    pub secret-kept : agree b goal ≡ true → r ≡ showing 15 paper.Dossier thing.Entry d (o .secret) → Judged r
     unfolding choose
-    secret-yes h g = secret-told (rw h g)
+    secret-kept h g = secret-told (rw h g)
 
-    pub secret-no : b ≡ false → r ≡ accepted said.Opaque → Judged r
+    pub secret-changed : agree b goal ≡ false → r ≡ accepted said.Opaque → Judged r
     unfolding choose
-    secret-no h g = secret-told (rw h g)
+    secret-changed h g = secret-told (rw h g)
 
 -- ---- a proof
 

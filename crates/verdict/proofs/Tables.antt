@@ -10,6 +10,7 @@ use mathlib.Core.Bool.{Bool, true, false}
 use borrow.Author.Tests.{ltb-true, ltb-false}
 use Rattle.meaning.specs.Tests.{at}
 use Rattle.meaning.specs.Papers.{Entry, policy, answer, witness, proof}
+use Rattle.meaning.specs.Looks.{aim}
 use Rattle.meaning.specs.Verdict.{judge}
 use Rattle.promise.specs.Code.{bit}
 use Rattle.promise.specs.Place.{many, filled, Fit}
@@ -77,8 +78,8 @@ module _ (d : List ℕ) (o : Layout) (table : List ℕ) (t : Told d o table) whe
       nothing : none ≡ some e → ⊥
       nothing z = let w : _≡_ {A = ℕ} 0 1 = ap count z in omega arith
 
-  pub rules-ready : Laid d o → {a b c : List ℕ} → rules.ClauseStarts d o a → rules.CredStarts d o b → ProbeStarts d o c → rules.Ready d o a b c table
-  rules-ready l u v w = record { laid = l; clauses = u; creds = v; probes = w; long = t .long; told = λ j e h. told-by j e (ltb j (o .nprobes)) refl h }
+  pub rules-ready : Laid d o → {a b c : List ℕ} → rules.ClauseStarts d o a → rules.CredStarts d o b → ProbeStarts d o c → {goal : Bool} → goal ≡ aim (dossierAt d o) → rules.Ready d o a b c table goal
+  rules-ready l u v w g = record { laid = l; clauses = u; creds = v; probes = w; long = t .long; told = λ j e h. told-by j e (ltb j (o .nprobes)) refl h; aimed = g }
 
 -- a witness's clauses and a proof's lines are there
 pub witness-there : (n : ℕ) (c : List ℕ) {proposal : Proposal} {k : ℕ} → proposal ≡ Witness k → Proposed n c proposal → Fit (credential n) c 2 k

@@ -4,7 +4,7 @@ use mathlib.Core.Path.{_≡_}
 use mathlib.Core.List.{List}
 use mathlib.Core.Option.{Option, none, some}
 use lib.ListN.{length, getD}
-use Rattle.meaning.specs.Verdict.{Outcome, opaque, detectable, probeDiffers, secretTrue, lineFails, lastNotEmpty}
+use Rattle.meaning.specs.Verdict.{Outcome, opaque, detectable, probeDiffers, secretKept, lineFails, lastNotEmpty}
 use Rattle.promise.specs.Place.{place}
 use Rattle.promise.specs.Thing.{nextOf}
 use Rattle.promise.specs.declared.Layout.{Layout}
@@ -30,7 +30,7 @@ unfoldable pub replyAt : List ℕ → Layout → List ℕ → ℕ → Outcome �
 replyAt d o c k opaque = accepted Opaque
 replyAt d o c k detectable = accepted Detectable
 replyAt d o c k (probeDiffers j) = showing 14 Dossier Entry d (place (nextOf Entry d) (o .probes) j)
-replyAt d o c k secretTrue = showing 15 Dossier Entry d (o .secret)
+replyAt d o c k secretKept = showing 15 Dossier Entry d (o .secret)
 replyAt d o c k (lineFails j) = showing 16 Certificate Line c (place (nextOf Line c) 2 j)
 replyAt d o c k lastNotEmpty = showing 17 Certificate Line c (place (nextOf Line c) 2 (k - 1))
 

@@ -104,18 +104,26 @@ fn first_differing(
     Fault::Nowhere
 }
 
+// The value that the secret has in the dossier's policy: a proof shows it, a witness denies it.
+fn own_secret(d: &[u16], o: Layout, creds: &[usize]) -> bool
+    requires { ⌜ Laid (now d) o × rules.CredStarts (now d) o (now creds) ⌝ }
+    ensures { λ r. ⌜ r ≡ aim (dossierAt (now (d .entry)) o) ⌝ }
+{
+    evaluation::answer_at(d, o, creds, d, Which::Own, o.secret)
+}
+
 // With every probe answered alike: the secret.
 fn judge_secret(d: &[u16], o: Layout, creds: &[usize], w: &[u16], k: usize) -> Reply
     requires { ⌜ Ready (now d) o (now creds) (now w) (Tried k) ⌝ }
     ensures { λ r. ⌜ r ≡ replyAt (now (d .entry)) o (now (w .entry)) k (choose
         (agree (papers.answer (dossierAt (now (d .entry)) o) (meant.tried (dossierAt (now (d .entry)) o) (many (credential (o .atoms)) (now (w .entry)) 2 k)) (dossierAt (now (d .entry)) o .secret)) (not (aim (dossierAt (now (d .entry)) o))))
-        meant.opaque meant.secretTrue) ⌝ }
+        meant.opaque meant.secretKept) ⌝ }
 {
     let p = o.secret;
-    if evaluation::answer_at(d, o, creds, w, Which::Tried(k), p) {
-        refusing(15, Paper::Dossier, Thing::Entry, d, p)
-    } else {
+    if evaluation::answer_at(d, o, creds, w, Which::Tried(k), p) != own_secret(d, o, creds) {
         accepting(Verdict::Opaque)
+    } else {
+        refusing(15, Paper::Dossier, Thing::Entry, d, p)
     }
 }
 
@@ -146,16 +154,29 @@ fn first_failing(
     creds: &[usize],
     probes: &[usize],
     told: &[u16],
+    goal: bool,
     s: &[u16],
     lines: &[usize],
     k: usize,
 ) -> Fault
-    requires { ⌜ rules.Ready (now d) o (now clauses) (now creds) (now probes) (now told) × rules.LineStarts (now s) k (now lines) × Fit line (now s) 2 k ⌝ }
+    requires { ⌜ rules.Ready (now d) o (now clauses) (now creds) (now probes) (now told) goal × rules.LineStarts (now s) k (now lines) × Fit line (now s) 2 k ⌝ }
     ensures { λ r. ⌜ r ≡ asFault (lowest (lineFollows (dossierAt (now (d .entry)) o) (many line (now (s .entry)) 2 k)) 0 k) ⌝ }
 {
     let mut j = 0;
     while j < k {
-        if !lines::line_follows(d, o, clauses, creds, probes, told, s, lines, j, lines[j]) {
+        if !lines::line_follows(
+            d,
+            o,
+            clauses,
+            creds,
+            probes,
+            told,
+            goal,
+            s,
+            lines,
+            j,
+            lines[j],
+        ) {
             return Fault::At(j);
         }
         j += 1;
@@ -184,21 +205,22 @@ fn judge_proof(
     creds: &[usize],
     probes: &[usize],
     told: &[u16],
+    goal: bool,
     s: &[u16],
     lines: &mut [usize],
     k: usize,
 ) -> Reply
-    requires { ⌜ rules.Ready (now d) o (now clauses) (now creds) (now probes) (now told) × (k ≤ length (now lines)) × Fit line (now s) 2 k × (1 ≤ k) × (k ≤ 1024) ⌝ }
+    requires { ⌜ rules.Ready (now d) o (now clauses) (now creds) (now probes) (now told) goal × (k ≤ length (now lines)) × Fit line (now s) 2 k × (1 ≤ k) × (k ≤ 1024) ⌝ }
     ensures { λ r. ⌜ r ≡ replyAt (now (d .entry)) o (now (s .entry)) k (meant.judge (dossierAt (now (d .entry)) o) (papers.proof (many line (now (s .entry)) 2 k))) ⌝ }
 {
     promise::starts(s, 2, k, Thing::Line, lines);
-    match first_failing(d, o, clauses, creds, probes, told, s, lines, k) {
+    match first_failing(d, o, clauses, creds, probes, told, goal, s, lines, k) {
         Fault::At(j) => refusing(16, Paper::Certificate, Thing::Line, s, lines[j]),
         Fault::Nowhere => judge_last(s, lines[k - 1]),
     }
 }
 
-// The proof of k lines, with the tables that only a proof needs. A short proof has a short one for its lines.
+// The proof of k lines, with what only a proof needs. A short proof has a short table for its lines.
 fn judge_lines(
     d: &[u16],
     o: Layout,
@@ -213,12 +235,13 @@ fn judge_lines(
 {
     let mut clauses = [0usize; 128];
     promise::starts(d, o.clauses, o.nclauses, Thing::Clause, &mut clauses);
+    let goal = own_secret(d, o, creds);
     if k <= 64 {
         let mut short = [0usize; 64];
-        return judge_proof(d, o, &clauses, creds, probes, told, s, &mut short, k);
+        return judge_proof(d, o, &clauses, creds, probes, told, goal, s, &mut short, k);
     }
     let mut lines = [0usize; 1024];
-    judge_proof(d, o, &clauses, creds, probes, told, s, &mut lines, k)
+    judge_proof(d, o, &clauses, creds, probes, told, goal, s, &mut lines, k)
 }
 
 // The judgement of two sound papers: d has the layout o, and c has that proposal. `told` is blank, then has the dossier's answers.

@@ -7,7 +7,7 @@ use Rattle.lines.proofs.plain_follows.Statement.{statement}
 use Rattle.lines.proofs.plain_follows.Tie as tie
 
 secret-follows-requires : tie.Need-secret-follows-requires
-secret-follows-requires c κs = (c .before .before .before .before .before .before .before .pre .0 .laid, c .before .before .before .before .before .before .before .pre .1)
+secret-follows-requires c κs = (c .before .before .before .before .before .before .before .pre .0 .laid, c .before .before .before .before .before .before .before .pre .0 .aimed, c .before .before .before .before .before .before .before .pre .1)
 
 returns : tie.Need-returns
 returns c = λ e. c .secret-follows .ensures e ∙ ap (follows _ _ _) (rule-2 _ _ _ (c .before .if1 .taken))

@@ -15,10 +15,10 @@ use Rattle.verdict.proofs.first_failing.Statement.{statement}
 use Rattle.verdict.proofs.first_failing.Tie as tie
 
 abbrev Inv-loop : tie.InvT-loop
-Inv-loop d o clauses creds probes told s lines k j₀ j = From (lineFollows (dossierAt d o) (many line s 2 k)) k j
+Inv-loop d o clauses creds probes told goal s lines k j₀ j = From (lineFollows (dossierAt d o) (many line s 2 k)) k j
 
 abbrev μ-loop : tie.MeasureT-loop
-μ-loop d o clauses creds probes told s lines k j₀ j = k - j
+μ-loop d o clauses creds probes told goal s lines k j₀ j = k - j
 
 loop-holds : tie.Need-loop-holds Inv-loop μ-loop
 loop-holds c =
