@@ -4,3 +4,4 @@ pub mod Cases
 pub mod Demands
 pub mod Shows
 pub mod Table
+pub mod Former

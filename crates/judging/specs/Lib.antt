@@ -3,3 +3,4 @@ pub mod Answers
 pub mod Cases
 pub mod Table
 pub mod Demands
+pub mod Former

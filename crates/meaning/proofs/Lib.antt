@@ -5,4 +5,5 @@ pub mod Sound
 pub mod Verdict
 pub mod Extends
 pub mod Demands
+pub mod Former
 pub mod Example

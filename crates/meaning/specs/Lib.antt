@@ -7,3 +7,4 @@ pub mod Rules
 pub mod Verdict
 pub mod Extends
 pub mod Demands
+pub mod Former

@@ -1,0 +1,19 @@
+-- What request A2 left as it was, over words. (Meaning's `FalseAsDenied` says what it changed, on decoded papers: a denied formula may pass the limits of form.)
+use mathlib.Core.Path.{_≡_}
+use mathlib.Core.List.{List}
+use Prim.Native.Nat.{ℕ}
+use Rattle.meaning.specs.Papers.{Dossier, policy, Yes}
+use Rattle.meaning.specs.Former.{formerJudge}
+use Rattle.promise.specs.Code.{codeDossier}
+use Rattle.promise.specs.Form.{DossierForm}
+use Rattle.dossier.specs.Read.{dossier}
+use Rattle.reply.specs.declared.Reply.{Reply}
+use Rattle.judging.specs.Judge.{judgeRead, judgeOf}
+
+-- the reply before the request
+unfoldable pub formerOf : List ℕ → List ℕ → Reply
+formerOf d c = judgeRead formerJudge d (dossier d) c
+
+-- "on a sound dossier whose secret is true in its policy every reply is what it was before"
+abbrev pub RepliesKept : Type 0
+RepliesKept = (D : Dossier) → DossierForm D → Yes D (policy D) (D .secret) → (c : List ℕ) → judgeOf (codeDossier D) c ≡ formerOf (codeDossier D) c
