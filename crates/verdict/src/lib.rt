@@ -164,19 +164,8 @@ fn first_failing(
 {
     let mut j = 0;
     while j < k {
-        if !lines::line_follows(
-            d,
-            o,
-            clauses,
-            creds,
-            probes,
-            told,
-            goal,
-            s,
-            lines,
-            j,
-            lines[j],
-        ) {
+        let q = lines[j];
+        if !lines::line_follows(d, o, clauses, creds, probes, told, goal, s, lines, j, q) {
             return Fault::At(j);
         }
         j += 1;

@@ -25,11 +25,11 @@ loop-holds c =
     let a = c .before .before .before .before .before .before .before .args in
     from-start (lineFollows (dossierAt (a .d .now) (a .o)) (many line (a .s .now) 2 (a .k))) (a .k)
 
-mul-line-follows : tie.Need-mul-line-follows Inv-loop μ-loop
-mul-line-follows c = search needs
+mul-q : tie.Need-mul-q Inv-loop μ-loop
+mul-q c = search needs
 
-shared-slice-read-line-follows : tie.Need-shared-slice-read-line-follows Inv-loop μ-loop
-shared-slice-read-line-follows c = omega (arith, c .before .before .before .before .before .before .before .before .before .before .pre .1 .long)
+shared-slice-read-q : tie.Need-shared-slice-read-q Inv-loop μ-loop
+shared-slice-read-q c = omega (arith, c .before .before .before .before .before .before .before .before .before .before .pre .1 .long)
 
 line-follows-requires : tie.Need-line-follows-requires Inv-loop μ-loop
 line-follows-requires c κs =
@@ -71,8 +71,8 @@ first-failing-spec =
     Inv-loop
     μ-loop
     loop-holds
-    mul-line-follows
-    shared-slice-read-line-follows
+    mul-q
+    shared-slice-read-q
     line-follows-requires
     returns
     add-j
