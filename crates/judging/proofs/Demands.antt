@@ -23,6 +23,7 @@ use Rattle.promise.specs.Code.{codeDossier, codeCertificate}
 use Rattle.promise.specs.Form.{DossierForm, CertificateForm}
 use Rattle.promise.specs.Layout.{layoutOf, proposalOf}
 use Rattle.promise.specs.declared.Layout.{Layout}
+use Rattle.dossier.specs.Read.{dossier}
 use Rattle.dossier.proofs.Promise.{dossierAccepted}
 use Rattle.certificate.specs.Read.{certificate}
 use Rattle.certificate.proofs.Promise.{certificateSound, certificateAccepted, certificateMore}
@@ -32,7 +33,7 @@ use Rattle.reply.specs.declared.Reply.{Reply}
 use Rattle.reply.specs.declared.Verdict as said
 use Rattle.reply.specs.declared.Verdict.the-variants as verdict
 use Rattle.verdict.specs.Told.{showing, replyAt, sizeOf}
-use Rattle.judging.specs.Judge.{judgeProposal, judgeRead, judgeOf}
+use Rattle.judging.specs.Judge.{Judge, judgeProposal, judgeRead, judgeOf}
 use Rattle.judging.specs.Table.{SoundFor}
 use Rattle.judging.specs.Demands.{SaysOpaque, SaysDetectable, Demand2, Demand3, AnswersMeant}
 
@@ -79,9 +80,14 @@ module _ (D : Dossier) (f : DossierForm D) where
   abbrev told : List ℕ → Certificate → meant.Outcome → Reply
   told c C x = replyAt (codeDossier D) (layoutOf D) c (sizeOf (proposalOf C)) x
 
+  -- the dossier is read first, whatever judge is asked
+  pub read-by : (judge : Judge) (c : List ℕ) → judgeRead judge (codeDossier D) (dossier (codeDossier D)) c ≡ judgeProposal judge (codeDossier D) D c (certificate (length (D .labels)) (length (D .creds)) c)
+  unfolding judgeRead
+  read-by judge c = ap (λ (x : Out Dossier). judgeRead judge (codeDossier D) x c) (dossierAccepted D f)
+
   read-first : (c : List ℕ) → judgeOf (codeDossier D) c ≡ judgeProposal meant.judge (codeDossier D) D c (certificate (length (D .labels)) (length (D .creds)) c)
-  unfolding judgeOf judgeRead
-  read-first c = ap (λ (x : Out Dossier). judgeRead meant.judge (codeDossier D) x c) (dossierAccepted D f)
+  unfolding judgeOf
+  read-first = read-by meant.judge
 
   pub judged : (C : Certificate) → SoundFor D C → judgeOf (codeDossier D) (codeCertificate C) ≡ told (codeCertificate C) C (meant.judge D C)
   unfolding judgeProposal

@@ -10,11 +10,11 @@ use Rattle.meaning.specs.Former.{formerJudge}
 use Rattle.meaning.proofs.Former.{trueAsBefore}
 use Rattle.promise.specs.Code.{codeDossier}
 use Rattle.promise.specs.Layout.{layoutOf, proposalOf}
-use Rattle.dossier.proofs.Promise.{dossierAccepted}
 use Rattle.certificate.specs.Read.{certificate}
 use Rattle.verdict.specs.Told.{replyAt, sizeOf}
-use Rattle.judging.specs.Judge.{judgeProposal, judgeRead, judgeOf}
+use Rattle.judging.specs.Judge.{judgeProposal, judgeOf}
 use Rattle.judging.specs.Former.{formerOf, RepliesKept}
+use Rattle.judging.proofs.Demands.{read-by}
 
 -- with the dossier read: whatever was read from c
 proposal-kept : (d : List ℕ) (D : Dossier) → Yes D (policy D) (D .secret) → (c : List ℕ) (x : Out Certificate) → judgeProposal meant.judge d D c x ≡ judgeProposal formerJudge d D c x
@@ -23,8 +23,5 @@ proposal-kept d D y c (got C q) = ap (replyAt d (layoutOf D) c (sizeOf (proposal
 proposal-kept d D y c (bad e p w) = refl
 
 pub repliesKept : RepliesKept
-unfolding judgeOf formerOf judgeRead
-repliesKept D f y c =
-    ap (λ (x : Out Dossier). judgeRead meant.judge (codeDossier D) x c) (dossierAccepted D f)
-    ∙ proposal-kept (codeDossier D) D y c (certificate (length (D .labels)) (length (D .creds)) c)
-    ∙ sym (ap (λ (x : Out Dossier). judgeRead formerJudge (codeDossier D) x c) (dossierAccepted D f))
+unfolding judgeOf formerOf
+repliesKept D f y c = read-by D f meant.judge c ∙ proposal-kept (codeDossier D) D y c (certificate (length (D .labels)) (length (D .creds)) c) ∙ sym (read-by D f formerJudge c)
