@@ -17,8 +17,8 @@ use Rattle.words.specs.declared.Step.the-variants.{Next, Refused}
 use Rattle.words.proofs.Steps.{refused, passed, step-made}
 use Rattle.words.proofs.Promise.{OK, ok-then, ok-made, ok-word, ok-more, In, inGot, inBad, in-then, in-made, Spans, spans-join, lies, past, Reads, reads-as, reads-ranged, reads-times}
 use Rattle.meaning.specs.Tests.{_is_, choose}
-use Rattle.meaning.specs.Papers.{Rule, probe, secret, clause, assumed, credential, cut, without, resolve, Line}
-use Rattle.promise.specs.Code.{codeLiteral, numberOf, dataOf, codeLine}
+use Rattle.meaning.specs.Papers.{Rule, probe, secret, clause, assumed, credential, cut, without, resolve, number, Line}
+use Rattle.promise.specs.Code.{codeLiteral, dataOf, codeLine}
 use Rattle.promise.specs.Form.{LineForm}
 use Rattle.promise.specs.Line.{dataCount, ruleOf}
 use Rattle.promise.proofs.Seen.{first-word, next-words}
@@ -110,7 +110,7 @@ first-is ws p [] rest w = refl
 first-is ws p (x ∷ d) rest w = ap₂ {C = List ℕ} _∷_ (first-word ws p w) (later-is ws p 1 d rest (next-words ws p w))
 
 -- the rule that is made of its number and its data words has that number and those words
-rule-data : (ws : List ℕ) (p r : ℕ) → 1 ≤ r → r < 9 → (numberOf (ruleOf ws r p) ≡ r) × (dataOf (ruleOf ws r p) ≡ first ws p (dataCount r))
+rule-data : (ws : List ℕ) (p r : ℕ) → 1 ≤ r → r < 9 → (number (ruleOf ws r p) ≡ r) × (dataOf (ruleOf ws r p) ≡ first ws p (dataCount r))
 unfolding ruleOf dataCount choose _is_ first later
 rule-data ws p zero a b = absurd (omega arith)
 rule-data ws p (suc zero) a b = (refl, refl)
@@ -123,7 +123,7 @@ rule-data ws p (suc (suc (suc (suc (suc (suc (suc zero))))))) a b = (refl, refl)
 rule-data ws p (suc (suc (suc (suc (suc (suc (suc (suc zero)))))))) a b = (refl, refl)
 rule-data ws p (suc (suc (suc (suc (suc (suc (suc (suc (suc r))))))))) a b = absurd (omega arith)
 
-number-few : (r : Rule) → numberOf r < 9
+number-few : (r : Rule) → number r < 9
 number-few (probe k) = omega arith
 number-few secret = omega arith
 number-few (clause i j) = omega arith
@@ -147,7 +147,7 @@ reads-line n m = record { sound = sound; exact = exact; inside = inside }
         in-made _ (reads-literals n m k .inside ws t l))))
 
     -- the code of a line whose rule is made of its number and its data words
-    code : (ws : List ℕ) (at z r p : ℕ) (d rest tail : List ℕ) → 1 ≤ r → r < 9 → length d ≡ dataCount r → drop p ws ≡ d ++ rest → Spans ws at (r ∷ (d ++ tail)) z → Spans ws at (numberOf (ruleOf ws r p) ∷ (dataOf (ruleOf ws r p) ++ tail)) z
+    code : (ws : List ℕ) (at z r p : ℕ) (d rest tail : List ℕ) → 1 ≤ r → r < 9 → length d ≡ dataCount r → drop p ws ≡ d ++ rest → Spans ws at (r ∷ (d ++ tail)) z → Spans ws at (number (ruleOf ws r p) ∷ (dataOf (ruleOf ws r p) ++ tail)) z
     code ws at z r p d rest tail a b e w s =
         let (x, y) = rule-data ws p r a b in
         let f : first ws p (dataCount r) ≡ d = rw (← e) (first-is ws p d rest w) in
@@ -169,13 +169,13 @@ reads-line n m = record { sound = sound; exact = exact; inside = inside }
         let r = l .rule in
         let ls = l .literals in
         let tail : List ℕ = codeMany codeLiteral ls in
-        let a = reads-ranged 1 9 12 .exact ws at (numberOf r) (dataOf r ++ tail ++ rest) h (number-some r, number-few r) in
+        let a = reads-ranged 1 9 12 .exact ws at (number r) (dataOf r ++ tail ++ rest) h (number-some r, number-few r) in
         let u : drop (at + 1) ws ≡ dataOf r ++ (tail ++ rest) = next-words ws at h ∙ append-assoc (dataOf r) tail rest in
-        let d = reads-data (dataCount (numberOf r)) .exact ws (at + 1) (dataOf r) (tail ++ rest) u (sym (data-count r)) in
+        let d = reads-data (dataCount (number r)) .exact ws (at + 1) (dataOf r) (tail ++ rest) u (sym (data-count r)) in
         let q : ℕ = at + 1 + length (dataOf r) in
         let v : drop q ws ≡ tail ++ rest = past ws (at + 1) (dataOf r) u in
         let k = reads-ranged 0 9 2 .exact ws q (length ls) (codeAll codeLiteral ls ++ rest) v (omega arith, omega (arith, f .few)) in
         let x = reads-literals n m (length ls) .exact ws (q + 1) ls rest (next-words ws q v) (refl, (f .literals .each, f .literals .apart)) in
-        let y : ruleOf ws (numberOf r) (at + 1) ≡ r = ap (λ i. ruleOf ws i (at + 1)) (sym (first-word ws at h)) ∙ ap (λ (j : Line). j .rule) (lines-seen n m ws at l rest h f .that) in
+        let y : ruleOf ws (number r) (at + 1) ≡ r = ap (λ i. ruleOf ws i (at + 1)) (sym (first-word ws at h)) ∙ ap (λ (j : Line). j .rule) (lines-seen n m ws at l rest h f .that) in
         let z : q + 1 + length (codeAll codeLiteral ls) ≡ at + length (codeLine l) = omega (arith, length-append (dataOf r) tail) in
         simp (a, d, k, x, y) (ap (got l) z)

@@ -37,7 +37,7 @@ rules n = flatMap (λ a. flatMap (λ b. flatMap (λ c. flatMap (λ d. six a b c 
 
 -- that a rule is one of these, and of those that are enough
 listed : Unit {0}
-unfolding six number enough mem any at _or_ _is_
+unfolding six enough mem any at _or_ _is_
 listed = tt
 
 -- more than every data word that names something

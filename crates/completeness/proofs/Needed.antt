@@ -30,7 +30,7 @@ heads-same h x y ls s (suc c) = refl
 
 -- no probe
 carried1 : Carried 1 sample (sampleWith true [] [] three)
-unfolding unfold-sample number
+unfolding unfold-sample
 carried1 b ls (Rule.probe k) f h = absurd (f refl)
 carried1 b ls Rule.secret f h = h
 carried1 b ls (Rule.clause i j) f h = h
@@ -42,7 +42,7 @@ carried1 b ls (Rule.resolve u v i j) f h = h
 
 -- another secret
 carried2 : Carried 2 sample (sampleWith true [] probed (atom 3))
-unfolding unfold-sample number
+unfolding unfold-sample
 carried2 b ls (Rule.probe k) f h = h
 carried2 b ls Rule.secret f h = absurd (f refl)
 carried2 b ls (Rule.clause i j) f h = h
@@ -54,7 +54,7 @@ carried2 b ls (Rule.resolve u v i j) f h = h
 
 -- no visible clause
 carried3 : Carried 3 sample (sampleWith false [] probed three)
-unfolding unfold-sample number
+unfolding unfold-sample
 carried3 b ls (Rule.probe k) f h = h
 carried3 b ls Rule.secret f h = h
 carried3 b ls (Rule.clause i j) f h = absurd (f refl)
@@ -66,7 +66,7 @@ carried3 b ls (Rule.resolve u v i j) f h = h
 
 -- a credential that never fires
 carried5 : Carried 5 sample (sampleWith true (1 ∷ []) probed three)
-unfolding unfold-sample number
+unfolding unfold-sample
 carried5 b ls (Rule.probe zero) f h = h
 carried5 b ls (Rule.probe (suc k)) f h = h
 carried5 b ls Rule.secret f h = h
@@ -99,7 +99,7 @@ fact-fires b ls c j h =
     instead (suc c) h = unfold at in absurd (true≢false (cc))
 
 carried7 : Carried 7 t1 t1-fact
-unfolding compute number t1-fact
+unfolding compute t1-fact
 carried7 b ls (Rule.probe zero) f h = h
 carried7 b ls (Rule.probe (suc zero)) f h = h
 carried7 b ls (Rule.probe (suc (suc k))) f h = h
@@ -114,7 +114,7 @@ carried7 b ls (Rule.resolve u v i j) f h = h
 -- ---- rule 8: no other gives the empty line
 
 empty-fails : (b : List Line) (r : Rule) → (number r ≡ 8 → ⊥) → follows sample b [] r ≡ true → ⊥
-unfolding follows number
+unfolding follows
 empty-fails b (Rule.probe k) f h = let (j, e) = gives-at [] (two []) _ (sample-probe b [] k h) in List·Memᴰ·not-nil (at-mem [] j e)
 empty-fails b Rule.secret f h = let (j, e) = gives-at [] (two (0 ∷ [])) _ (sample-secret b [] h) in List·Memᴰ·not-nil (at-mem [] j e)
 empty-fails b (Rule.clause i j) f h = let (m, em, g) = named-at _ _ h in let (l, e, t) = named-at _ _ g in List·Memᴰ·not-nil (at-mem [] j e)

@@ -135,7 +135,7 @@ module _ (D : Dossier) (U : List Statement) where
 
   -- rule 8: from the lines with either literal on s
   resolved : (e : List Line) (s : Statement) (C : List Literal) → Over U C → (f : Derived e (lit true s ∷ C)) → (g : Derived (whole f) (lit false s ∷ C)) → Derived e C
-  unfolding follows at others number enough mem any _or_ _is_
+  unfolding follows at others enough mem any _or_ _is_
   resolved e s C o f g = record { before = last .before; rule = last .rule; good = last .good; keeps = λ i l q. last .keeps i l (g .keeps i l (f .keeps i l q)) }
     where
       all-in : all (isIn C) C ≡ true

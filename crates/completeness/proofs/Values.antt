@@ -59,7 +59,7 @@ module _ (ls : List Literal) (denied : any trueLit ls ≡ false) where
 
   module _ (b : List Line) (cited : (u : ℕ) (l : Line) → at b u ≡ some l → any trueLit (l .literals) ≡ true) where
     refuted : (r : Rule) → (number r ≡ 6 → ⊥) → follows sample b ls r ≡ true → ⊥
-    unfolding number follows val trueLit
+    unfolding follows val trueLit
     refuted (Rule.probe k) f h = let (j, e) = gives-at ls (two []) false (sample-probe b ls k h) in clash (val-two .0) (val-said (at-mem ls j e))
     refuted Rule.secret f h = let (j, e) = gives-at ls (two (0 ∷ [])) true (sample-secret b ls h) in clash (val-said (at-mem ls j e)) (val-two .1)
     refuted (Rule.clause i j) f h =

@@ -73,15 +73,15 @@ pub data Rule : Type 0 where
   resolve : ℕ → ℕ → ℕ → ℕ → Rule
 
 -- "rule (1 to 8)"
-unfoldable pub number : Rule → ℕ
-number (Rule.probe k) = 1
-number Rule.secret = 2
-number (Rule.clause i j) = 3
-number (Rule.assumed j) = 4
-number (Rule.credential c j) = 5
-number (Rule.cut j i) = 6
-number (Rule.without c i j k) = 7
-number (Rule.resolve u v i j) = 8
+abbrev pub number : Rule → ℕ
+number (probe k) = 1
+number secret = 2
+number (clause i j) = 3
+number (assumed j) = 4
+number (credential c j) = 5
+number (cut j i) = 6
+number (without c i j k) = 7
+number (resolve u v i j) = 8
 
 pub record Line : Type 0 where
   pub rule : Rule

@@ -7,8 +7,8 @@ use lib.ListN.{length, getD, drop, length-append}
 use lib.Seq.{getD-drop}
 use Rattle.words.specs.Code.{codeMany}
 use Rattle.meaning.specs.Tests.{_is_, choose}
-use Rattle.meaning.specs.Papers.{Rule, probe, secret, clause, assumed, credential, cut, without, resolve}
-use Rattle.promise.specs.Code.{codeLiteral, numberOf, dataOf, codeLine}
+use Rattle.meaning.specs.Papers.{Rule, probe, secret, clause, assumed, credential, cut, without, resolve, number}
+use Rattle.promise.specs.Code.{codeLiteral, dataOf, codeLine}
 use Rattle.promise.specs.Form.{LineForm}
 use Rattle.promise.specs.Place.{place, many}
 use Rattle.promise.specs.Line.{literal, dataCount, ruleOf, line}
@@ -18,7 +18,7 @@ word-at : (ws : List ℕ) (p i : ℕ) {l : List ℕ} → drop p ws ≡ l → get
 word-at ws p i w = sym (getD-drop p ws i 0) ∙ ap (λ (l : List ℕ). getD l i 0) w
 
 -- a rule has as many data words as its number says
-pub data-count : (r : Rule) → dataCount (numberOf r) ≡ length (dataOf r)
+pub data-count : (r : Rule) → dataCount (number r) ≡ length (dataOf r)
 unfolding dataCount choose _is_
 data-count (probe k) = refl
 data-count secret = refl
@@ -29,7 +29,7 @@ data-count (cut j i) = refl
 data-count (without c i j k) = refl
 data-count (resolve u v i j) = refl
 
-pub number-some : (r : Rule) → 0 < numberOf r
+pub number-some : (r : Rule) → 0 < number r
 number-some (probe k) = omega arith
 number-some secret = omega arith
 number-some (clause i j) = omega arith
@@ -39,7 +39,7 @@ number-some (cut j i) = omega arith
 number-some (without c i j k) = omega arith
 number-some (resolve u v i j) = omega arith
 
-rule-seen : (ws : List ℕ) (p : ℕ) (r : Rule) (l : List ℕ) → drop p ws ≡ dataOf r ++ l → ruleOf ws (numberOf r) p ≡ r
+rule-seen : (ws : List ℕ) (p : ℕ) (r : Rule) (l : List ℕ) → drop p ws ≡ dataOf r ++ l → ruleOf ws (number r) p ≡ r
 unfolding ruleOf choose _is_
 rule-seen ws p (probe k) l w = rw (first-word ws p w)
 rule-seen ws p secret l w = refl
@@ -55,7 +55,7 @@ lines-seen n m ws p l rest w f =
     let r = l .rule in
     let ls = l .literals in
     let tail : List ℕ = codeMany codeLiteral ls in
-    let x : getD ws p 0 ≡ numberOf r = first-word ws p w in
+    let x : getD ws p 0 ≡ number r = first-word ws p w in
     let d : dataCount (getD ws p 0) ≡ length (dataOf r) = ap dataCount x ∙ data-count r in
     let u : drop (p + 1) ws ≡ dataOf r ++ (tail ++ rest) = next-words ws p w ∙ append-assoc (dataOf r) tail rest in
     let o : ℕ = p + 1 + dataCount (getD ws p 0) in

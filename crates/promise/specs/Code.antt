@@ -5,7 +5,7 @@ use mathlib.Core.Bool.{Bool, true, false}
 use Rattle.words.specs.Code.{codeList, codeMany}
 use Rattle.meaning.specs.Policy.{Clause}
 use Rattle.meaning.specs.Formula.{Formula, always, atom, neg, conj, disj}
-use Rattle.meaning.specs.Papers.{Entry, Marked, Dossier, Statement, Literal, Rule, probe, secret, clause, assumed, credential, cut, without, resolve, Line, Certificate, witness, proof}
+use Rattle.meaning.specs.Papers.{Entry, Marked, Dossier, Statement, Literal, Rule, probe, secret, clause, assumed, credential, cut, without, resolve, number, Line, Certificate, witness, proof}
 
 -- "mark (0 hidden, 1 visible)", "sign (1 positive, 0 negative)"
 abbrev pub bit : Bool → ℕ
@@ -47,17 +47,7 @@ codeStatement s = codeList (s .creds) ++ (codeList (s .atoms) ++ (s .atom ∷ []
 abbrev pub codeLiteral : Literal → List ℕ
 codeLiteral l = bit (l .positive) ∷ codeStatement (l .said)
 
--- the rule's number, and its data words
-abbrev pub numberOf : Rule → ℕ
-numberOf (probe k) = 1
-numberOf secret = 2
-numberOf (clause i j) = 3
-numberOf (assumed j) = 4
-numberOf (credential c j) = 5
-numberOf (cut j i) = 6
-numberOf (without c i j k) = 7
-numberOf (resolve u v i j) = 8
-
+-- the rule's data words
 abbrev pub dataOf : Rule → List ℕ
 dataOf (probe k) = k ∷ []
 dataOf secret = []
@@ -70,7 +60,7 @@ dataOf (resolve u v i j) = u ∷ v ∷ i ∷ j ∷ []
 
 -- "rule, the rule's data words, literal count, literals"
 abbrev pub codeLine : Line → List ℕ
-codeLine l = numberOf (l .rule) ∷ (dataOf (l .rule) ++ codeMany codeLiteral (l .literals))
+codeLine l = number (l .rule) ∷ (dataOf (l .rule) ++ codeMany codeLiteral (l .literals))
 
 -- "Witness: 1, clause count, clauses as credentials are laid out." "Proof: 2, line count, lines."
 unfoldable pub codeCertificate : Certificate → List ℕ
