@@ -10,7 +10,7 @@ use Rattle.meaning.specs.Papers.{Entry, Dossier, policy, visible, answer
 use Rattle.meaning.specs.Looks.{aim, Detectable, Opaque}
 use Rattle.meaning.specs.Verdict.{opaque, detectable, tried, WitnessAccepted, ProofAccepted}
 use Rattle.meaning.specs.Extends.{Extends, WellNamed}
-use Rattle.meaning.specs.Demands.{HoldsTested, HoldsDerived, RoundsEnough, TruthTested, LooksLikeItself, DetectableMeant, OpaqueMeant, NotBoth, When, WitnessShows, Demand2, Demand3}
+use Rattle.meaning.specs.Demands.{HoldsTested, HoldsDerived, RoundsEnough, TruthTested, LooksLikeItself, AimMeant, DetectableMeant, OpaqueMeant, NotBoth, When, WitnessShows, Demand2, Demand3}
 use Rattle.meaning.proofs.Tests.{not-self, not-opposite}
 use Rattle.meaning.proofs.Rounds.{holds-tested, holds-derived, rounds-holds}
 use Rattle.meaning.proofs.Truth.{truth-tested, value-tested, alike-tested}
@@ -35,6 +35,10 @@ truthTested = truth-tested
 
 pub looksLikeItself : LooksLikeItself
 looksLikeItself D = record { first = own-visible D; second = own-visible D; alike = λ e m. (λ y. y, λ y. y) }
+
+pub aimMeant : AimMeant
+unfolding aim
+aimMeant D = value-tested D (policy D) (D .secret) _ .1 refl
 
 pub detectableMeant : DetectableMeant
 unfolding Detectable aim

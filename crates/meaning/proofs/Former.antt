@@ -8,11 +8,11 @@ use lib.ListN.{length}
 use Rattle.meaning.specs.Tests.{_is_, agree, at, named, choose, lowest}
 use Rattle.meaning.specs.Policy.{Policy}
 use Rattle.meaning.specs.Formula.{read, truth}
-use Rattle.meaning.specs.Papers.{Entry, Dossier, policy, visible, answer, Literal, Rule, number, Line, Certificate, witness, proof}
+use Rattle.meaning.specs.Papers.{Entry, Dossier, policy, visible, answer, Literal, Rule, Line, Certificate, witness, proof}
 use Rattle.meaning.specs.Looks.{Value, aim}
 use Rattle.meaning.specs.Rules.{not₃, value, _gives_, follows, earlier, lineFollows}
 use Rattle.meaning.specs.Verdict.{opaque, detectable, probeDiffers, secretKept, lineFails, lastNotEmpty, tried, probeAgrees, lastEmpty, decide, judge}
-use Rattle.meaning.specs.Former.{formerFollows, formerLine, formerJudge, TrueAsBefore, asking, denying, FalseAsDenied}
+use Rattle.meaning.specs.Former.{formerFollows, formerJudge, TrueAsBefore, asking, denying, FalseAsDenied}
 use Rattle.meaning.proofs.Truth.{value-tested}
 
 -- ---- tests that agree everywhere
@@ -32,7 +32,7 @@ named-same h (some x) = h x
 -- e, asked of the former judge, passes rule 2 and 15 where D's own secret passes them
 module _ (D : Dossier) (e : Entry) (rule2 : (ls : List Literal) → value ls (D .secret .creds) (D .secret .formula) gives aim D ≡ value ls (e .creds) (e .formula) gives true) where
   follows-same : (before : List Line) (ls : List Literal) (r : Rule) → follows D before ls r ≡ formerFollows (asking D e) before ls r
-  unfolding follows formerFollows asking number _is_ choose policy answer
+  unfolding follows formerFollows asking _is_ choose policy answer
   follows-same before ls (Rule.probe k) = refl
   follows-same before ls Rule.secret = rule2 ls
   follows-same before ls (Rule.clause i j) = refl
@@ -43,7 +43,7 @@ module _ (D : Dossier) (e : Entry) (rule2 : (ls : List Literal) → value ls (D 
   follows-same before ls (Rule.resolve u v i j) = refl
 
   judge-same : ((P : Policy) → agree (answer D P (D .secret)) (not (aim D)) ≡ agree (answer D P e) false) → (C : Certificate) → judge D C ≡ formerJudge (asking D e) C
-  unfolding judge formerJudge lineFollows formerLine asking probeAgrees tried visible answer policy
+  unfolding judge formerJudge lineFollows asking probeAgrees tried visible answer policy
   judge-same row15 (witness W) = ap (λ (b : Bool). decide (lowest (probeAgrees D W) 0 (length (D .probes))) probeDiffers b opaque secretKept) (row15 (tried D W))
   judge-same row15 (proof lines) =
       ap (λ (x : Option ℕ). decide x lineFails (lastEmpty lines) detectable lastNotEmpty)

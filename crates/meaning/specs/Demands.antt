@@ -37,7 +37,11 @@ TruthTested = (cs : List Clause) (P : Policy) (S : List ℕ) (f : Formula) → T
 
 -- ---- Looks the same, detectable, opaque
 
--- "every policy that looks the same gives the secret the value it has in the dossier's policy" (A2), with no test
+-- The aim is "the value it has in the dossier's policy" (A2), by the published meaning. Rule 2 and the rows of demand 2 cite it.
+abbrev pub AimMeant : Type 0
+AimMeant = (D : Dossier) → Value (aim D) (Yes D (policy D) (D .secret))
+
+-- "every policy that looks the same gives the secret the value it has in the dossier's policy", with no test
 abbrev pub DetectableMeant : Type 0
 DetectableMeant = (D : Dossier) → Detectable D ↔ ((Q : Policy) → LookTheSame D (policy D) Q → (Yes D (policy D) (D .secret) ↔ Yes D Q (D .secret)))
 

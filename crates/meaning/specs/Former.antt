@@ -2,29 +2,20 @@
 use mathlib.Core.Path.{_≡_}
 use mathlib.Core.Bool.{Bool, true, false}
 use mathlib.Core.List.{List}
-use Prim.Native.Nat.{ℕ}
-use lib.ListN.{length}
-use Rattle.meaning.specs.Tests.{_is_, agree, at, named, choose, lowest}
+use Rattle.meaning.specs.Tests.{_is_, choose}
 use Rattle.meaning.specs.Formula.{neg}
-use Rattle.meaning.specs.Papers.{Entry, Dossier, policy, Yes, answer, Literal, Rule, number, Line, Certificate, witness, proof}
-use Rattle.meaning.specs.Rules.{value, _gives_, follows, earlier}
-use Rattle.meaning.specs.Verdict.{Outcome, opaque, detectable, probeDiffers, secretKept, lineFails, lastNotEmpty, tried, probeAgrees, lastEmpty, decide, judge}
+use Rattle.meaning.specs.Papers.{Entry, Dossier, policy, Yes, Literal, Rule, number, Line, Certificate, witness, proof}
+use Rattle.meaning.specs.Rules.{value, _gives_, follows, lineBy}
+use Rattle.meaning.specs.Verdict.{Outcome, judgeWitness, judgeLines, judge}
 
 -- Rule 2, as 01 has it: "suppose each literal false: the secret's formula is true"
 unfoldable pub formerFollows : Dossier → List Line → List Literal → Rule → Bool
 formerFollows D before ls r = choose (number r is 2) (value ls (D .secret .creds) (D .secret .formula) gives true) (follows D before ls r)
 
-unfoldable pub formerLine : Dossier → List Line → ℕ → Bool
-formerLine D lines k = named (at lines k) λ l. formerFollows D (earlier lines k) (l .literals) (l .rule)
-
 -- 15, as 01 has it: "witness: the secret is true"
 unfoldable pub formerJudge : Dossier → Certificate → Outcome
-formerJudge D (witness W) =
-    decide (lowest (probeAgrees D W) 0 (length (D .probes))) probeDiffers
-    (agree (answer D (tried D W) (D .secret)) false) opaque secretKept
-formerJudge D (proof lines) =
-    decide (lowest (formerLine D lines) 0 (length lines)) lineFails
-    (lastEmpty lines) detectable lastNotEmpty
+formerJudge D (witness W) = judgeWitness D W false
+formerJudge D (proof lines) = judgeLines lines (lineBy (formerFollows D) lines)
 
 -- "on a sound dossier whose secret is true in its policy every reply is what it was before": the outcome, sound or not. (Judging's `RepliesKept` has the replies.)
 abbrev pub TrueAsBefore : Type 0

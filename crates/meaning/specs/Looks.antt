@@ -1,4 +1,4 @@
--- Policies that look the same, detectable and opaque, by the published meaning. (`DetectableMeant` and `OpaqueMeant` say both without `aim`.)
+-- Policies that look the same, detectable and opaque, by the published meaning. (`AimMeant`, `DetectableMeant` and `OpaqueMeant` of Demands say them without a test.)
 use mathlib.Core.Path.{_≡_}
 use mathlib.Core.Bool.{Bool, true, false, not}
 use mathlib.Core.Logic.{_↔_}

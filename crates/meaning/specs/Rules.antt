@@ -111,6 +111,9 @@ follows D before ls (resolve u v i j) =
 unfoldable pub earlier : List Line → ℕ → List Line
 earlier lines k = take k lines
 
--- line k of a proof follows, by its own rule, from the lines before it
+-- line k of a proof follows, by its own rule, from the lines before it; what a rule asks is told by the first argument
+abbrev pub lineBy : (List Line → List Literal → Rule → Bool) → List Line → ℕ → Bool
+lineBy asks lines k = named (at lines k) λ l. asks (earlier lines k) (l .literals) (l .rule)
+
 unfoldable pub lineFollows : Dossier → List Line → ℕ → Bool
-lineFollows D lines k = named (at lines k) λ l. follows D (earlier lines k) (l .literals) (l .rule)
+lineFollows D = lineBy (follows D)

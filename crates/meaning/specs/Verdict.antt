@@ -39,14 +39,20 @@ unfoldable pub decide : Option ℕ → (ℕ → Outcome) → Bool → Outcome �
 decide (some k) fails b good bad = fails k
 decide none fails b good bad = choose b good bad
 
--- "In meaning: lowest probe, then secret; or lowest line, then 17."
-unfoldable pub judge : Dossier → Certificate → Outcome
-judge D (witness W) =
+-- "In meaning: lowest probe, then secret; or lowest line, then 17." The secret is to have the value b in the policy tried; line k is to pass the test.
+abbrev pub judgeWitness : Dossier → Policy → Bool → Outcome
+judgeWitness D W b =
     decide (lowest (probeAgrees D W) 0 (length (D .probes))) probeDiffers
-    (agree (answer D (tried D W) (D .secret)) (not (aim D))) opaque secretKept
-judge D (proof lines) =
-    decide (lowest (lineFollows D lines) 0 (length lines)) lineFails
+    (agree (answer D (tried D W) (D .secret)) b) opaque secretKept
+
+abbrev pub judgeLines : List Line → (ℕ → Bool) → Outcome
+judgeLines lines test =
+    decide (lowest test 0 (length lines)) lineFails
     (lastEmpty lines) detectable lastNotEmpty
+
+unfoldable pub judge : Dossier → Certificate → Outcome
+judge D (witness W) = judgeWitness D W (not (aim D))
+judge D (proof lines) = judgeLines lines (lineFollows D lines)
 
 -- what the demands call accepted
 abbrev pub WitnessAccepted : Dossier → Policy → Type 0
