@@ -10,9 +10,10 @@ use Rattle.meaning.specs.Papers.{Entry, Dossier, policy, visible, answer
 use Rattle.meaning.specs.Looks.{aim, Detectable, Opaque}
 use Rattle.meaning.specs.Verdict.{opaque, detectable, tried, WitnessAccepted, ProofAccepted}
 use Rattle.meaning.specs.Extends.{Extends, WellNamed}
-use Rattle.meaning.specs.Demands.{HoldsTested, HoldsDerived, RoundsEnough, TruthTested, LooksLikeItself, AimMeant, DetectableMeant, OpaqueMeant, NotBoth, When, WitnessShows, Demand2, Demand3}
+use Rattle.meaning.specs.Demands.{HoldsTested, HoldsDerived, RoundsEnough, FirstRounds, TruthTested, LooksLikeItself, AimMeant, DetectableMeant, OpaqueMeant, NotBoth, When, WitnessShows, Demand2, Demand3}
 use Rattle.meaning.proofs.Tests.{not-self, not-opposite}
 use Rattle.meaning.proofs.Rounds.{holds-tested, holds-derived, rounds-holds}
+use Rattle.meaning.proofs.First.{first-rounds}
 use Rattle.meaning.proofs.Truth.{truth-tested, value-tested, alike-tested}
 use Rattle.meaning.proofs.Sound.{none-denies}
 use Rattle.meaning.proofs.Verdict.{own-visible, tried-visible, judge-exactly}
@@ -29,6 +30,9 @@ roundsEnough n k P h le a =
     let e = rounds-holds n k P h le a in
     let t = holds-tested P a in
     ((λ y. sym e ∙ t .0 y, λ y. t .1 (e ∙ y)), sym (rounds-holds n (suc k) P h (omega arith) a) ∙ e)
+
+pub firstRounds : FirstRounds
+firstRounds = first-rounds
 
 pub truthTested : TruthTested
 truthTested = truth-tested

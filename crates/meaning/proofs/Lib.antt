@@ -1,5 +1,6 @@
 pub mod Tests
 pub mod Rounds
+pub mod First
 pub mod Truth
 pub mod Sound
 pub mod Verdict

@@ -22,16 +22,16 @@ ClosedIn M P = (c : Clause) → c ∈ P → ((b : ℕ) → b ∈ c .body → M b
 -- ---- a round, taken apart and made
 
 module _ (P : Policy) (X : ℕ → Bool) where
-  round-keeps : (a : ℕ) → In X a → In (round P X) a
+  pub round-keeps : (a : ℕ) → In X a → In (round P X) a
   unfolding round
   round-keeps a h = or-left _ h
 
-  round-adds : {c : Clause} → c ∈ P → all X (c .body) ≡ true → In (round P X) (c .head)
+  pub round-adds : {c : Clause} → c ∈ P → all X (c .body) ≡ true → In (round P X) (c .head)
   unfolding round
   round-adds {c} m h = or-right _ (any-of _ m (and-of (is-refl (c .head)) h))
 
   -- what has X and is closed under P where X has the body, has the round
-  round-least : (M : ℕ → Type 0) → ((a : ℕ) → In X a → M a) → ((c : Clause) → c ∈ P → ((b : ℕ) → b ∈ c .body → In X b) → M (c .head)) → (a : ℕ) → In (round P X) a → M a
+  pub round-least : (M : ℕ → Type 0) → ((a : ℕ) → In X a → M a) → ((c : Clause) → c ∈ P → ((b : ℕ) → b ∈ c .body → In X b) → M (c .head)) → (a : ℕ) → In (round P X) a → M a
   unfolding round
   round-least M f g a h = go (or-cases h)
     where
@@ -161,10 +161,10 @@ closed-holds : (P : Policy) (k : ℕ) → ClosedIn (In (after P k)) P → (a : �
 unfolding Holds
 closed-holds P k f a = together (holds-least (In (after P k)) P f a) (λ h. holds-tested P a .0 (k, h))
 
--- As soon as a round adds nothing, what is there is what holds.
-pub stop-early : (P : Policy) (k : ℕ) → ((a : ℕ) → after P (suc k) a ≡ after P k a) → (a : ℕ) → holds P a ≡ after P k a
+-- As soon as a round adds no head, what is there is what holds.
+pub stop-early : (P : Policy) (k : ℕ) → ((c : Clause) → c ∈ P → after P (suc k) (c .head) ≡ after P k (c .head)) → (a : ℕ) → holds P a ≡ after P k a
 unfolding ClosedIn after
-stop-early P k same a = closed-holds P k (λ c m h. sym (same (c .head)) ∙ round-adds P (after P k) m (all-of _ (c .body) h)) a
+stop-early P k same a = closed-holds P k (λ c m h. sym (same c m) ∙ round-adds P (after P k) m (all-of _ (c .body) h)) a
 
 -- ---- with heads below n
 

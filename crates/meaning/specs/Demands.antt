@@ -1,19 +1,24 @@
 -- What is proved of these definitions, each theorem as a type. proofs/Demands.antt has each under the same name in small letters.
 use mathlib.Core.Path.{_≡_}
 use mathlib.Core.Bool.{true, false, not}
-use mathlib.Core.List.{List}
+use mathlib.Core.List.{List, []}
 use mathlib.Core.Option.{some}
 use mathlib.Core.Logic.{_↔_}
 use Prim.Native.Nat.{ℕ, suc, _<_, _≤_}
 use lib.ListN.{length}
 use Rattle.meaning.specs.Tests.{_∈_, at}
-use Rattle.meaning.specs.Policy.{Clause, Policy, after, Holds, holds, Derivable}
+use Rattle.meaning.specs.Policy.{Clause, Policy, after, Holds, holds, firstRound, Derivable}
 use Rattle.meaning.specs.Formula.{Formula, Truth, truth}
 use Rattle.meaning.specs.Papers.{Entry, Dossier, policy, Yes, Line, Certificate, witness, proof}
 use Rattle.meaning.specs.Looks.{LookTheSame, Value, aim, Detectable, Opaque}
 use Rattle.meaning.specs.Rules.{lineFollows}
 use Rattle.meaning.specs.Verdict.{Outcome, opaque, detectable, probeDiffers, secretKept, lineFails, lastNotEmpty, tried, lastEmpty, judge, WitnessAccepted, ProofAccepted}
 use Rattle.meaning.specs.Extends.{Extends, WellNamed}
+
+-- k is the lowest number of which T is so
+pub record Lowest (T : ℕ → Type 0) (k : ℕ) : Type 0 where
+  pub here : T k
+  pub below : (j : ℕ) → j < k → T j → ⊥
 
 -- ---- What a policy makes true
 
@@ -30,6 +35,28 @@ abbrev pub RoundsEnough : Type 0
 RoundsEnough =
     (n k : ℕ) (P : Policy) → ((c : Clause) → c ∈ P → c .head < n) → n ≤ k → (a : ℕ)
     → (Holds P a ↔ (after P k a ≡ true)) × (after P (suc k) a ≡ after P k a)
+
+-- clause c first adds its head in round k + 1: k rounds have all of its body and not the head
+pub record FirstAdds (P : Policy) (c : Clause) (k : ℕ) : Type 0 where
+  pub there : c ∈ P
+  pub body : (b : ℕ) → b ∈ c .body → after P k b ≡ true
+  pub head : after P k (c .head) ≡ false
+
+-- What request A5 says of the numbers.
+pub record FirstRounds : Type 0 where
+  -- "the least round that has a"
+  pub least : (P : Policy) (a k : ℕ) → (firstRound P a ≡ suc k) ↔ Lowest (λ j. after P j a ≡ true) (suc k)
+  -- "0 where none does": "an atom holds exactly when its number is not 0"
+  pub holding : (P : Policy) (a : ℕ) → Holds P a ↔ (firstRound P a ≡ 0 → ⊥)
+  -- "a fact: 1"
+  pub facts : (P : Policy) (c : Clause) → c ∈ P → c .body ≡ [] → firstRound P (c .head) ≡ 1
+  -- with every head below n, it is at most n
+  pub limit : (n : ℕ) (P : Policy) → ((c : Clause) → c ∈ P → c .head < n) → (a : ℕ) → firstRound P a ≤ n
+  -- "a clause which first adds an atom in round k has its body atoms added before round k"
+  pub before : (P : Policy) (c : Clause) (k : ℕ) → FirstAdds P c k
+      → (firstRound P (c .head) ≡ suc k) × ((b : ℕ) → b ∈ c .body → (1 ≤ firstRound P b) × (firstRound P b < suc k))
+  -- and each atom that has a number is first added by such a clause
+  pub added : (P : Policy) (a k : ℕ) → firstRound P a ≡ suc k → (c : Clause) × (c .head ≡ a) × FirstAdds P c k
 
 -- The test `truth` is right.
 abbrev pub TruthTested : Type 0
@@ -56,11 +83,6 @@ abbrev pub NotBoth : Type 0
 NotBoth = (D : Dossier) → Detectable D → Opaque D → ⊥
 
 -- ---- Demand 2
-
--- k is the lowest number of which T is so
-pub record Lowest (T : ℕ → Type 0) (k : ℕ) : Type 0 where
-  pub here : T k
-  pub below : (j : ℕ) → j < k → T j → ⊥
 
 -- probe k is not answered by the policy tried as by the dossier's
 abbrev pub Differs : Dossier → Policy → ℕ → Type 0

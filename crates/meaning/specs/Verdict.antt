@@ -1,13 +1,14 @@
 -- The judge's outcome on decoded papers (01, "What the reply says": 14 to 17, opaque and detectable).
 use mathlib.Core.Path.{_≡_}
 use mathlib.Core.Bool.{Bool, not}
-use mathlib.Core.List.{List, _++_}
+use mathlib.Core.List.{List, [], _++_}
 use mathlib.Core.Option.{Option, none, some}
 use Prim.Native.Nat.{ℕ, _-_}
 use lib.ListN.{length}
 use Rattle.meaning.specs.Tests.{_is_, agree, at, named, choose, lowest}
-use Rattle.meaning.specs.Policy.{Policy}
-use Rattle.meaning.specs.Papers.{Dossier, policy, visible, answer, Line, Certificate, witness, proof}
+use Rattle.meaning.specs.Policy.{Policy, firstRound}
+use Rattle.meaning.specs.Formula.{joined}
+use Rattle.meaning.specs.Papers.{Entry, Dossier, policy, visible, answer, Line, Certificate, witness, proof}
 use Rattle.meaning.specs.Looks.{aim}
 use Rattle.meaning.specs.Rules.{lineFollows}
 
@@ -53,6 +54,19 @@ judgeLines lines test =
 unfoldable pub judge : Dossier → Certificate → Outcome
 judge D (witness W) = judgeWitness D W (not (aim D))
 judge D (proof lines) = judgeLines lines (lineFollows D lines)
+
+-- Request A5, "Why did the probe differ?": the entry that an outcome is about, 14 "that probe", 15 "the secret"
+unfoldable pub about : Dossier → Outcome → Option Entry
+about D opaque = none
+about D detectable = none
+about D (probeDiffers k) = at (D .probes) k
+about D secretKept = some (D .secret)
+about D (lineFails k) = none
+about D lastNotEmpty = none
+
+-- atom a's number "for the witness with the visible clauses and that probe's or the secret's credentials"
+unfoldable pub roundIn : Dossier → Policy → Entry → ℕ → ℕ
+roundIn D W e a = firstRound (joined (D .creds) (tried D W) (e .creds) []) a
 
 -- what the demands call accepted
 abbrev pub WitnessAccepted : Dossier → Policy → Type 0
