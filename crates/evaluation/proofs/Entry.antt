@@ -1,33 +1,31 @@
--- An entry's answer, from the table after 64 rounds.
+-- An entry's answer and the rounds that first add each atom, from the table after 64 rounds.
 use Prim.Native.Nat.{ℕ, zero, suc, _<_, _≤_}
-use mathlib.Core.Path.{_≡_, refl, ap, ap₂, _∙_, subst}
-use mathlib.Core.Bool.{Bool, false, not}
-use mathlib.Core.List.{List, [], _++_}
+use mathlib.Core.Path.{_≡_, refl, sym, ap, ap₂, _∙_, subst}
+use mathlib.Core.Bool.{Bool, not}
+use mathlib.Core.List.{List, [], _∷_, _++_}
 use native.Mathlib.Omega.{arith}
-use lib.Dec.{eqb}
-use lib.ListN.{length, getD, take, drop, replicate, length-replicate, getD-replicate}
-use lib.Seq.{length-take-le, getD-take}
-use Rattle.meaning.specs.Tests.{_∈_, _and_, _or_, _is_}
-use Rattle.meaning.specs.Policy.{Clause, Policy, holds}
+use lib.ListN.{length, getD, take, drop, replicate, length-replicate}
+use lib.Seq.{take-at}
+use Rattle.meaning.specs.Tests.{_∈_, _and_, _or_}
+use Rattle.meaning.specs.Policy.{Clause, Policy, holds, firstRound}
 use Rattle.meaning.specs.Formula.{Formula, always, atom, neg, conj, disj, read, joined, given, truth}
 use Rattle.meaning.specs.Papers.{Marked, answer}
 use Rattle.promise.specs.Code.{bit}
 use Rattle.promise.specs.Form.{FormulaForm}
-use Rattle.promise.specs.Place.{many, place, Fit, Starts}
+use Rattle.promise.specs.Place.{many, place, Fit, Starts, rows, filled}
 use Rattle.promise.specs.Clause.{credential, marked}
 use Rattle.promise.specs.Formula.{FormulaFits, formulaAt, entryAt, entryOf, EntryFits, entry}
 use Rattle.promise.specs.declared.EntryAt.{EntryAt}
 use Rattle.promise.specs.Layout.{dossierAt, Laid}
 use Rattle.promise.specs.declared.Layout.{Layout}
-use Rattle.promise.proofs.Place.{fit-each}
-use Rattle.evaluation.specs.Table.{has, inTable, rounds}
+use Rattle.promise.proofs.Place.{fit-each, rows-length, rows-get, rows-are}
+use Rattle.evaluation.specs.Table.{has, inTable}
 use Rattle.evaluation.specs.Which.{policyAt, joinedAt, WhichFits, Sources, Ready}
-use Rattle.evaluation.specs.Answer.{answerOf, answerWord}
+use Rattle.evaluation.specs.Answer.{answerOf, answerWord, roundOf}
 use Rattle.evaluation.specs.declared.Which.{Which}
 use Rattle.evaluation.specs.declared.Which.the-variants.{Own, Tried}
 use Rattle.evaluation.proofs.Atoms.{BelowOne, own-below, tried-below, sent-below}
-use Rattle.evaluation.proofs.Rounds.{Is, Below, rounds-give}
-use Rattle.evaluation.proofs.Copying.{back, back-long, back-whole, rounds-length}
+use Rattle.evaluation.proofs.Rounds.{Below, has-holds}
 
 -- ---- the atoms of the joined policy are below n
 
@@ -52,9 +50,9 @@ module _ (d : List ℕ) (o : Layout) (creds w : List ℕ) (which : Which) (s : R
   unfolding joinedAt
   joined-below e = sent-below (o .atoms) (dossierAt d o) creds-below (policyAt d o w which) (policy-below which (s .witness)) (entryOf d e .creds)
 
--- ---- a formula read in the table of what holds
+-- ---- a formula read in the table of the first rounds
 
-truth-table : (n : ℕ) (t : List ℕ) (cs : List Clause) (P : Policy) (S : List ℕ) → Is n t (holds (joined cs P S [])) → (e : ℕ) (f : Formula) → FormulaForm n e f → read (inTable t) f ≡ truth cs P S f
+truth-table : (n : ℕ) (t : List ℕ) (cs : List Clause) (P : Policy) (S : List ℕ) → ((a : ℕ) → a < n → has t a ≡ holds (joined cs P S []) a) → (e : ℕ) (f : Formula) → FormulaForm n e f → read (inTable t) f ≡ truth cs P S f
 unfolding FormulaForm read inTable truth given
 truth-table n t cs P S i zero f h = absurd h
 truth-table n t cs P S i (suc e) always h = refl
@@ -63,61 +61,74 @@ truth-table n t cs P S i (suc e) (neg f) h = ap not (truth-table n t cs P S i e 
 truth-table n t cs P S i (suc e) (conj f g) h = ap₂ _and_ (truth-table n t cs P S i e f (h .0)) (truth-table n t cs P S i e g (h .1))
 truth-table n t cs P S i (suc e) (disj f g) h = ap₂ _or_ (truth-table n t cs P S i e f (h .0)) (truth-table n t cs P S i e g (h .1))
 
--- ---- a table with no atoms
+-- ---- the first rounds
 
-module _ {z : List ℕ} (e : z ≡ replicate 64 0) (n : ℕ) (small : n ≤ 64) where
-  pub zero-size : length (take n z) ≡ n
-  zero-size = length-take-le n z (omega (arith, ap length e, length-replicate {A = ℕ} 64 0))
+-- the first n of 64 zeros
+take-zeros : (n m : ℕ) → n ≤ m → take n (replicate {A = ℕ} m 0) ≡ replicate n 0
+take-zeros zero m h = refl
+take-zeros (suc n) zero h = absurd (omega arith)
+take-zeros (suc n) (suc m) h = ap (λ (l : List ℕ). 0 ∷ l) (take-zeros n m (omega arith))
 
-  zero-none : (a : ℕ) → a < n → has (take n z) a ≡ false
-  unfolding has _is_
-  zero-none a h = ap (λ (x : ℕ). eqb x 1) (getD-take n z a 0 h ∙ ap (λ (l : List ℕ). getD l a 0) e ∙ getD-replicate 64 a 0 0 (omega arith))
+pub zeros : {z : List ℕ} → z ≡ replicate 64 0 → (n : ℕ) → n ≤ 64 → take n z ≡ replicate n 0
+zeros e n small = ap (take n) e ∙ take-zeros n 64 small
+
+pub zeros-size : {z : List ℕ} → z ≡ replicate 64 0 → (n : ℕ) → n ≤ 64 → n ≡ length (take n z)
+zeros-size e n small = sym (ap length (zeros e n small) ∙ length-replicate {A = ℕ} n 0)
+
+-- the table after the rounds, back in the longer one that was lent for it
+pub run-back : (f : ℕ → ℕ) (n : ℕ) {z t : List ℕ} → z ≡ replicate 64 0 → t ≡ rows f n → t ++ drop n z ≡ filled f n (replicate 64 0)
+unfolding filled
+run-back f n e g = ap₂ (λ (x y : List ℕ). x ++ drop n y) g e
+
+-- the atoms of the policy with the entry's credentials
+pub sources-below : {d : List ℕ} {o : Layout} {creds w : List ℕ} {which : Which} {e : EntryAt} → Sources d o creds w which e → Below (o .atoms) (joinedAt d o w which e)
+sources-below {d} {o} {creds} {w} {which} {e} s = joined-below d o creds w which (s .ready) e
+
+-- words written to the start of a table from a shorter one
+pub widened : (src old : List ℕ) (i : ℕ) {t : List ℕ} → t ≡ filled (λ j. getD src j 0) i old → i ≡ length src → t ≡ src ++ drop (length src) old
+unfolding filled
+widened src old i e z = e ∙ ap (λ (k : ℕ). rows (λ j. getD src j 0) k ++ drop k old) z ∙ ap (λ (l : List ℕ). l ++ drop (length src) old) (sym (rows-are _ (length src) src refl (λ j h. refl)))
+
+-- the first n of the table with the numbers
+first-part : (f : ℕ → ℕ) (n : ℕ) (old : List ℕ) {t : List ℕ} → t ≡ filled f n old → take n t ≡ rows f n
+unfolding filled
+first-part f n old e = ap (take n) e ∙ take-at (rows f n) (drop n old) n (rows-length f n)
 
 -- ---- the answer
 
 -- all that is known of the entry at p, whose view is e
-module _ (d : List ℕ) (o : Layout) (creds w : List ℕ) (which : Which) (ready : Ready d o creds w which) (p : ℕ) (fits : EntryFits (o .atoms) (o .ncreds) d p) (e : EntryAt) (seen : e ≡ entryAt d p) where
-  abbrev J : Policy
-  J = joinedAt d o w which e
-
+module _ {d : List ℕ} {o : Layout} {creds w : List ℕ} {which : Which} (ready : Ready d o creds w which) {p : ℕ} (fits : EntryFits (o .atoms) (o .ncreds) d p) {e : EntryAt} (seen : e ≡ entryAt d p) where
   pub sources : Sources d o creds w which e
   sources = rw seen (record { ready = ready; there = omega (arith, fits .ends); names = fits .creds })
 
-  J-below : Below (o .atoms) J
-  J-below = joined-below d o creds w which ready e
+  abbrev J : Policy
+  J = joined (dossierAt d o .creds) (policyAt d o w which) (entryOf d (entryAt d p) .creds) []
 
-  J-is : J ≡ joined (dossierAt d o .creds) (policyAt d o w which) (entryOf d (entryAt d p) .creds) []
-  unfolding joinedAt
-  J-is = ap (λ (v : EntryAt). joined (dossierAt d o .creds) (policyAt d o w which) (entryOf d v .creds) []) seen
+  -- the table with the numbers
+  module _ {t : List ℕ} (found : t ≡ filled (firstRound (joinedAt d o w which e)) (o .atoms) (replicate 64 0)) where
+    table-is : take (o .atoms) t ≡ rows (firstRound (joinedAt d o w which (entryAt d p))) (o .atoms)
+    table-is = first-part _ (o .atoms) _ found ∙ ap (λ (v : EntryAt). rows (firstRound (joinedAt d o w which v)) (o .atoms)) seen
 
-  module _ (t : List ℕ) (size : length t ≡ o .atoms) (none : (a : ℕ) → a < o .atoms → has t a ≡ false) where
-    truth-is : read (inTable (rounds J 64 t)) (formulaAt 16 d (e .formula)) ≡ answer (dossierAt d o) (policyAt d o w which) (entryOf d (entryAt d p))
-    unfolding answer
-    truth-is =
-        ap (λ (q : ℕ). read (inTable (rounds J 64 t)) (formulaAt 16 d q)) (ap (λ (v : EntryAt). v .formula) seen)
-        ∙ truth-table (o .atoms) (rounds J 64 t) (dossierAt d o .creds) (policyAt d o w which) (entryOf d (entryAt d p) .creds)
-        (λ a h. rounds-give (o .atoms) J J-below t (omega (arith, size)) none (ready .laid .atoms) a h ∙ ap (λ (P : Policy). holds P a) J-is)
-        16 (formulaAt 16 d (entryAt d p .formula)) (fits .form)
+    pub table-size : o .atoms ≡ length (take (o .atoms) t)
+    table-size = sym (ap length table-is ∙ rows-length _ (o .atoms))
 
-  -- the first n bytes of a table with no atoms, lent for 64 rounds
-  module _ {z : List ℕ} (zero : z ≡ replicate 64 0) {t : List ℕ} (ran : t ≡ rounds J 64 (take (o .atoms) z)) where
-    ran-size : length t ≡ o .atoms
-    ran-size = ap length ran ∙ rounds-length _ _ _ ∙ zero-size zero (o .atoms) (ready .laid .atoms)
+    pub table-fits : FormulaFits (length (take (o .atoms) t)) 16 d (e .formula)
+    table-fits = subst (λ (j : ℕ). FormulaFits j 16 d (e .formula)) table-size (rw seen (fits .formula))
 
-    pub ran-whole : length (t ++ drop (o .atoms) z) ≡ 64
-    ran-whole = let h = ap length zero ∙ length-replicate {A = ℕ} 64 0 in let small = ready .laid .atoms in back-whole (o .atoms) t z ran-size (omega arith) ∙ h
+    has-is : (a : ℕ) → a < o .atoms → has (take (o .atoms) t) a ≡ holds J a
+    unfolding joinedAt
+    has-is a h = has-holds J (take (o .atoms) t) a (ap (λ (x : List ℕ). getD x a 0) table-is ∙ rows-get _ (o .atoms) a h)
 
-    pub ran-back : o .atoms ≡ length (take (o .atoms) (t ++ drop (o .atoms) z))
-    ran-back = back-long (o .atoms) t z ran-size
-
-    pub ran-fits : FormulaFits (length (take (o .atoms) (t ++ drop (o .atoms) z))) 16 d (e .formula)
-    ran-fits = subst (λ (j : ℕ). FormulaFits j 16 d (e .formula)) ran-back (rw seen (fits .formula))
-
-    pub answer-is : {b : Bool} → b ≡ read (inTable (take (o .atoms) (t ++ drop (o .atoms) z))) (formulaAt 16 d (e .formula)) → b ≡ answerOf d o w which p
-    unfolding answerOf
+    pub answer-is : {b : Bool} → b ≡ read (inTable (take (o .atoms) t)) (formulaAt 16 d (e .formula)) → b ≡ answerOf d o w which p
+    unfolding answerOf answer
     answer-is g =
-        g ∙ ap (λ (x : List ℕ). read (inTable x) (formulaAt 16 d (e .formula))) (back (o .atoms) t z ran-size ∙ ran)
-        ∙ truth-is (take (o .atoms) z) (zero-size zero (o .atoms) (ready .laid .atoms)) (zero-none zero (o .atoms) (ready .laid .atoms))
+        g ∙ ap (λ (v : EntryAt). read (inTable (take (o .atoms) t)) (formulaAt 16 d (v .formula))) seen
+        ∙ truth-table (o .atoms) (take (o .atoms) t) (dossierAt d o .creds) (policyAt d o w which) (entryOf d (entryAt d p) .creds) has-is 16 (formulaAt 16 d (entryAt d p .formula)) (fits .form)
+
+    -- written to the start of a longer one
+    pub rounds-are : (old : List ℕ) {u : List ℕ} → u ≡ take (o .atoms) t ++ drop (length (take (o .atoms) t)) old → u ≡ filled (roundOf d o w which p) (o .atoms) old
+    unfolding filled roundOf
+    rounds-are old g = g ∙ ap₂ (λ (x : List ℕ) (k : ℕ). x ++ drop k old) table-is (sym table-size)
 
 -- ---- probe j, through the table of starts
 

@@ -1,13 +1,13 @@
 -- Firing the clauses of a policy, one after the other.
 use Prim.Native.Nat.{ℕ, zero, suc, _+_, _-_, _<_, _≤_}
 use mathlib.Core.Path.{_≡_, refl, sym, ap, _∙_, subst}
-use mathlib.Core.Bool.{Bool, true, false}
+use mathlib.Core.Bool.{Bool, true, false, not}
 use mathlib.Core.List.{List, [], _∷_, _++_, map, append-nil, List·Memᴰ·head, List·Memᴰ·tail}
 use mathlib.Core.Option.{some}
 use native.Mathlib.Omega.{arith}
-use lib.Dec.{eqb}
+use lib.Dec.{eqb, ltb}
 use lib.ListN.{length, getD, set, length-set}
-use Rattle.meaning.specs.Tests.{_∈_, _or_, _is_, all, choose, put, keep, at}
+use Rattle.meaning.specs.Tests.{_∈_, _and_, _or_, _is_, all, choose, put, keep, at}
 use Rattle.meaning.specs.Policy.{Clause, Policy}
 use Rattle.meaning.specs.Formula.{pick, chosen, joined}
 use Rattle.meaning.specs.Papers.{Marked, policy, visible}
@@ -19,85 +19,95 @@ use Rattle.promise.specs.declared.ClauseAt.{ClauseAt}
 use Rattle.promise.specs.declared.EntryAt.{EntryAt}
 use Rattle.promise.specs.declared.Layout.{Layout}
 use Rattle.promise.proofs.Place.{part-none, part-cons, place-next, many-none, many-on, many-at, fit-first, fit-on}
-use Rattle.evaluation.specs.Table.{has, fireOne, fireAll}
+use Rattle.evaluation.specs.Table.{has, before, fireOne, fireAll}
 use Rattle.evaluation.specs.Which.{Fires, kept, fireMarked, namedAt, NamedFits, named, policyAt, joinedAt, WhichFits, Sources}
 use Rattle.evaluation.specs.declared.Which.{Which}
 use Rattle.evaluation.specs.declared.Which.the-variants.{Own, Tried}
 
 -- ---- one clause
 
--- the code's test of a byte
-pub has-word : (t : List ℕ) (a : ℕ) → eqb (getD t a 0) 1 ≡ has t a
+-- the code's tests of a byte
+pub has-word : (t : List ℕ) (a : ℕ) → not (eqb (getD t a 0) 0) ≡ has t a
 unfolding has _is_
 has-word t a = refl
 
--- the body was tested: the head is put in, or not
-module _ (old : List ℕ) (h : ℕ) (body new : List ℕ) {r : Bool} (e : r ≡ all (has old) body) where
-  pub fire-yes : r ≡ true → set new h 1 ≡ fireOne old (record { head = h; body = body }) new
-  unfolding fireOne choose
-  fire-yes t = rw (sym e ∙ t)
+module _ (r : ℕ) (t : List ℕ) (a : ℕ) {x : Bool} (e : x ≡ has t a) where
+  pub before-word : x ≡ true → ltb (getD t a 0) r ≡ before r t a
+  unfolding before _and_
+  before-word h = rw (sym e ∙ h)
 
-  pub fire-no : r ≡ false → new ≡ fireOne old (record { head = h; body = body }) new
-  unfolding fireOne choose
-  fire-no t = rw (sym e ∙ t)
+  pub before-not : x ≡ false → false ≡ before r t a
+  unfolding before _and_
+  before-not h = rw (sym e ∙ h)
 
-pub fire-length : (old : List ℕ) (c : Clause) (new : List ℕ) → length (fireOne old c new) ≡ length new
+-- the head and the body were tested: the head is put in, or not
+module _ (r h : ℕ) (body t : List ℕ) {x : Bool} (e : x ≡ has t h) where
+  pub fire-there : not x ≡ false → t ≡ fireOne r (record { head = h; body = body }) t
+  unfolding fireOne choose _and_
+  fire-there n = rw (ap not (sym e) ∙ n)
+
+  module _ {y : Bool} (f : y ≡ all (before r t) body) where
+    pub fire-yes : not x ≡ true → y ≡ true → set t h r ≡ fireOne r (record { head = h; body = body }) t
+    unfolding fireOne choose _and_
+    fire-yes n m = rw (ap not (sym e) ∙ n, sym f ∙ m)
+
+    pub fire-no : not x ≡ true → y ≡ false → t ≡ fireOne r (record { head = h; body = body }) t
+    unfolding fireOne choose _and_
+    fire-no n m = rw (ap not (sym e) ∙ n, sym f ∙ m)
+
+pub fire-length : (r : ℕ) (c : Clause) (t : List ℕ) → length (fireOne r c t) ≡ length t
 unfolding fireOne choose
-fire-length old c new = go (all (has old) (c .body))
+fire-length r c t = go (not (has t (c .head)) and all (before r t) (c .body))
   where
-    go : (b : Bool) → length (choose b (set new (c .head) 1) new) ≡ length new
-    go true = length-set new (c .head) 1
+    go : (b : Bool) → length (choose b (set t (c .head) r) t) ≡ length t
+    go true = length-set t (c .head) r
     go false = refl
 
 -- what firing asks of a clause that fits, through its view
 pub fires : {s : List ℕ} {p n : ℕ} {c : ClauseAt} → c ≡ clauseAt s p → ClauseFits n s p → Fires n s c
 fires e f = rw e (record { there = f .ends; body = f .body; head = f .head })
 
--- the atoms of its body are within any table of that length
-pub body-below : {n : ℕ} {s : List ℕ} {c : ClauseAt} → Fires n s c → (table : List ℕ) → length table ≡ n → (x : ℕ) → x ∈ part s (c .body) (c .count) → x < length table
-body-below f table e x i = omega (arith, f .body x i)
-
 -- ---- all of them
 
-pub fireAll-none : (old new : List ℕ) → fireAll old [] new ≡ new
+pub fireAll-none : (r : ℕ) (new : List ℕ) → fireAll r [] new ≡ new
 unfolding fireAll
-fireAll-none old new = refl
+fireAll-none r new = refl
 
-pub fireAll-more : (old : List ℕ) (c : Clause) (P : Policy) (new : List ℕ) → fireAll old (c ∷ P) new ≡ fireAll old P (fireOne old c new)
+pub fireAll-more : (r : ℕ) (c : Clause) (P : Policy) (new : List ℕ) → fireAll r (c ∷ P) new ≡ fireAll r P (fireOne r c new)
 unfolding fireAll
-fireAll-more old c P new = refl
+fireAll-more r c P new = refl
 
-pub fireAll-length : (old : List ℕ) (P : Policy) (new : List ℕ) → length (fireAll old P new) ≡ length new
+pub fireAll-length : (r : ℕ) (P : Policy) (new : List ℕ) → length (fireAll r P new) ≡ length new
 unfolding fireAll
-fireAll-length old [] new = refl
-fireAll-length old (c ∷ P) new = fireAll-length old P (fireOne old c new) ∙ fire-length old c new
+fireAll-length r [] new = refl
+fireAll-length r (c ∷ P) new = fireAll-length r P (fireOne r c new) ∙ fire-length r c new
 
 -- one policy after the other
-fireAll-append : (old : List ℕ) (P Q : Policy) (new : List ℕ) → fireAll old (P ++ Q) new ≡ fireAll old Q (fireAll old P new)
+fireAll-append : (r : ℕ) (P Q : Policy) (new : List ℕ) → fireAll r (P ++ Q) new ≡ fireAll r Q (fireAll r P new)
 unfolding fireAll
-fireAll-append old [] Q new = refl
-fireAll-append old (c ∷ P) Q new = fireAll-append old P Q (fireOne old c new)
+fireAll-append r [] Q new = refl
+fireAll-append r (c ∷ P) Q new = fireAll-append r P Q (fireOne r c new)
 
-pub kept-none : (b : Bool) (old new : List ℕ) → fireAll old (kept b []) new ≡ new
+pub kept-none : (b : Bool) (r : ℕ) (new : List ℕ) → fireAll r (kept b []) new ≡ new
 unfolding kept keep fireAll
-kept-none true old new = refl
-kept-none false old new = refl
+kept-none true r new = refl
+kept-none false r new = refl
 
-pub kept-more : (b : Bool) (old : List ℕ) (m : Marked) (l : List Marked) (new : List ℕ) → fireAll old (kept b (m ∷ l)) new ≡ fireAll old (kept b l) (fireMarked b old m new)
+pub kept-more : (b : Bool) (r : ℕ) (m : Marked) (l : List Marked) (new : List ℕ) → fireAll r (kept b (m ∷ l)) new ≡ fireAll r (kept b l) (fireMarked b r m new)
 unfolding kept keep put fireAll fireMarked choose _or_
-kept-more true old m l new = refl
-kept-more false old m l new = go (m .visible)
+kept-more true r m l new = refl
+kept-more false r m l new = go (m .visible)
   where
-    go : (v : Bool) → fireAll old (map (λ (x : Marked). x .clause) (put v m (keep (λ (x : Marked). x .visible) l))) new ≡ fireAll old (map (λ (x : Marked). x .clause) (keep (λ (x : Marked). x .visible) l)) (choose v (fireOne old (m .clause) new) new)
+    go : (v : Bool) → fireAll r (map (λ (x : Marked). x .clause) (put v m (keep (λ (x : Marked). x .visible) l))) new ≡ fireAll r (map (λ (x : Marked). x .clause) (keep (λ (x : Marked). x .visible) l)) (choose v (fireOne r (m .clause) new) new)
     go true = refl
     go false = refl
 
-pub marked-length : (b : Bool) (old : List ℕ) (m : Marked) (new : List ℕ) → length (fireMarked b old m new) ≡ length new
+pub marked-length : (b : Bool) (r : ℕ) (m : Marked) (new : List ℕ) → length (fireMarked b r m new) ≡ length new
 unfolding fireMarked choose
-marked-length b old m new = go (b or m .visible)
+marked-length b r m new = go (b or m .visible)
   where
-    go : (v : Bool) → length (choose v (fireOne old (m .clause) new) new) ≡ length new
-    go true = fire-length old (m .clause) new
+    go : (v : Bool) → length (choose v (fireOne r (m .clause) new) new) ≡ length new
+    go true = fire-length r (m .clause) new
     go false = refl
 
 -- ---- the loops that fire
@@ -110,11 +120,11 @@ pub record Fold (A : Type 0) : Type 0 where
   pub more : (x : A) (l : List A) (t : List ℕ) → whole (x ∷ l) t ≡ whole l (one x t)
   pub long : (x : A) (t : List ℕ) → length (one x t) ≡ length t
 
-abbrev pub firing : List ℕ → Fold Clause
-firing old = record { whole = fireAll old; one = fireOne old; none = fireAll-none old; more = fireAll-more old; long = fire-length old }
+abbrev pub firing : ℕ → Fold Clause
+firing r = record { whole = fireAll r; one = fireOne r; none = fireAll-none r; more = fireAll-more r; long = fire-length r }
 
-abbrev pub keeping : Bool → List ℕ → Fold Marked
-keeping b old = record { whole = λ l. fireAll old (kept b l); one = fireMarked b old; none = kept-none b old; more = kept-more b old; long = marked-length b old }
+abbrev pub keeping : Bool → ℕ → Fold Marked
+keeping b r = record { whole = λ l. fireAll r (kept b l); one = fireMarked b r; none = kept-none b r; more = kept-more b r; long = marked-length b r }
 
 -- going over the k things from p on, on the first table, is going over those that are left, on the table so far
 pub record Left {A : Type 0} (F : Fold A) (K : Kind A) (ws : List ℕ) (p k : ℕ) (first : List ℕ) (here left : ℕ) (t : List ℕ) : Type 0 where
@@ -187,27 +197,27 @@ module _ (d : List ℕ) (o : Layout) (w : List ℕ) (which : Which) {n : ℕ} (s
   unfolding WhichFits
   witness-fits e f = rw size (rw e at f)
 
-  module _ (old new : List ℕ) {t : List ℕ} where
-    pub policy-own : which ≡ Own → t ≡ fireAll old (kept true (many (marked n) d (o .clauses) (o .nclauses))) new → t ≡ fireAll old (policyAt d o w which) new
+  module _ (r : ℕ) (new : List ℕ) {t : List ℕ} where
+    pub policy-own : which ≡ Own → t ≡ fireAll r (kept true (many (marked n) d (o .clauses) (o .nclauses))) new → t ≡ fireAll r (policyAt d o w which) new
     unfolding policyAt policy kept dossierAt
     policy-own e f = rw e (rw size at f)
 
-    pub policy-tried : {j : ℕ} {u : List ℕ} → which ≡ Tried j → u ≡ fireAll old (many (credential n) w 2 j) new → t ≡ fireAll old (kept false (many (marked n) d (o .clauses) (o .nclauses))) u → t ≡ fireAll old (policyAt d o w which) new
+    pub policy-tried : {j m : ℕ} {u : List ℕ} → which ≡ Tried j → m ≡ o .atoms → u ≡ fireAll r (many (credential n) w 2 j) new → t ≡ fireAll r (kept false (many (marked m) d (o .clauses) (o .nclauses))) u → t ≡ fireAll r (policyAt d o w which) new
     unfolding policyAt tried visible kept dossierAt
-    policy-tried {j} e f g =
-        let P = many (credential n) w 2 j in
-        let Q = kept false (many (marked n) d (o .clauses) (o .nclauses)) in
-        rw e (rw size at (g ∙ ap (fireAll old Q) f ∙ sym (fireAll-append old P Q new)))
+    policy-tried {j} {m} e same f g =
+        let P = many (credential (o .atoms)) w 2 j in
+        let Q = kept false (many (marked (o .atoms)) d (o .clauses) (o .nclauses)) in
+        rw e ((rw same at g) ∙ ap (fireAll r Q) (rw size at f) ∙ sym (fireAll-append r P Q new))
 
--- a copy, the policy, then the chosen credentials: a round of the joined policy
+-- the policy, then the chosen credentials: a round of the joined policy
 module _ (d : List ℕ) (o : Layout) (creds w : List ℕ) (which : Which) (e : EntryAt) (s : Sources d o creds w which e) where
   pub chosen-fits : {n : ℕ} → n ≡ o .atoms → Fit (named n creds) d (e .creds) (e .count)
   chosen-fits size = rw size (named-fit (o .atoms) d (o .creds) (o .ncreds) creds (s .ready .laid .creds) (s .ready .starts) (e .count) (e .creds) (s .there) (s .names))
 
-  pub joined-fired : (table : List ℕ) {n : ℕ} {old u t : List ℕ} → n ≡ o .atoms → old ≡ table → u ≡ fireAll old (policyAt d o w which) table → t ≡ fireAll old (many (named n creds) d (e .creds) (e .count)) u → t ≡ fireAll table (joinedAt d o w which e) table
+  pub joined-fired : (r : ℕ) (table : List ℕ) {n : ℕ} {u t : List ℕ} → n ≡ o .atoms → u ≡ fireAll r (policyAt d o w which) table → t ≡ fireAll r (many (named n creds) d (e .creds) (e .count)) u → t ≡ fireAll r (joinedAt d o w which e) table
   unfolding joinedAt joined dossierAt
-  joined-fired table {n} {old} size c f g =
+  joined-fired r table {n} size f g =
       let P = policyAt d o w which in
       let S = chosen (many (credential (o .atoms)) d (o .creds) (o .ncreds)) (part d (e .creds) (e .count)) in
       let same : many (named n creds) d (e .creds) (e .count) ≡ S = ap (λ (j : ℕ). many (named j creds) d (e .creds) (e .count)) size ∙ named-is (o .atoms) d (o .creds) (o .ncreds) creds (s .ready .laid .creds) (s .ready .starts) (e .count) (e .creds) (s .there) (s .names) in
-      g ∙ rw (same, f, c) (sym (ap (λ (Q : Policy). fireAll table (P ++ Q) table) (append-nil S) ∙ fireAll-append table P S table))
+      g ∙ rw (same, f) (sym (ap (λ (Q : Policy). fireAll r (P ++ Q) table) (append-nil S) ∙ fireAll-append r P S table))

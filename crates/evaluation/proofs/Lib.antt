@@ -1,5 +1,4 @@
 pub mod Firing
-pub mod Copying
 pub mod Rounds
 pub mod Entry
 pub mod Atoms

@@ -32,8 +32,8 @@ unfoldable pub kept : Bool → List Marked → Policy
 kept true l = map (λ (m : Marked). m .clause) l
 kept false l = map (λ (m : Marked). m .clause) (keep (λ (m : Marked). m .visible) l)
 
-unfoldable pub fireMarked : Bool → List ℕ → Marked → List ℕ → List ℕ
-fireMarked every old m new = choose (every or m .visible) (fireOne old (m .clause) new) new
+unfoldable pub fireMarked : Bool → ℕ → Marked → List ℕ → List ℕ
+fireMarked every r m t = choose (every or m .visible) (fireOne r (m .clause) t) t
 
 -- a credential named by its number, which stands at p; the table has where each credential begins
 abbrev pub namedAt : List ℕ → List ℕ → ℕ → ClauseAt

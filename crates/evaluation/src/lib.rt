@@ -4,19 +4,21 @@ use promise::EntryAt;
 use promise::Layout;
 ghost use mathlib.Core.Path.{_≡_};
 ghost use mathlib.Core.Bool.{true};
+ghost use mathlib.Core.List.{_++_};
 ghost use Prim.Native.Nat.{ℕ, _+_, _≤_, _<_};
-ghost use lib.ListN.{length, replicate, set};
-ghost use Rattle.meaning.specs.Tests.{_∈_, _and_, _or_, _is_, all, choose, same};
+ghost use lib.ListN.{length, drop, replicate, set};
+ghost use Rattle.meaning.specs.Tests.{_∈_, _and_, _or_, _is_, all, any, choose};
+ghost use Rattle.meaning.specs.Policy.{firstRound};
 ghost use Rattle.meaning.specs.Formula.{read};
 ghost use Rattle.promise.specs.Code.{bit};
-ghost use Rattle.promise.specs.Place.{part, many, Fit, Starts, filled};
+ghost use Rattle.promise.specs.Place.{part, many, Fit, Starts, rows, filled};
 ghost use Rattle.promise.specs.Formula.{FormulaFits, formulaAt, formulaEnd, EntryFits, entry};
 ghost use Rattle.promise.specs.Clause.{clauseAt, clauseOf, ClauseFits, credential, markedAt, markedOf, marked};
 ghost use Rattle.promise.specs.Layout.{Laid};
-ghost use Rattle.evaluation.specs.Table.{has, fireOne, fireAll, rounds, inTable};
+ghost use Rattle.evaluation.specs.Table.{has, before, fireOne, fireAll, inTable};
 ghost use Rattle.evaluation.specs.Which.{kept, fireMarked, Fires, NamedFits, namedAt, named};
 ghost use Rattle.evaluation.specs.Which.{WhichFits, policyAt, joinedAt, Ready, Sources};
-ghost use Rattle.evaluation.specs.Answer.{answerOf, answerWord};
+ghost use Rattle.evaluation.specs.Answer.{answerOf, answerWord, roundOf};
 ghost use Rattle.evaluation.specs.declared.Which.the-variants.{Own};
 
 // The policy that is evaluated: the dossier's own, or its visible clauses with the certificate's so many.
@@ -37,23 +39,35 @@ fn both(a: bool, b: bool) -> bool
     if a { b } else { false }
 }
 
-// Whether atom a is in the table.
+// Whether atom a is in the table, which has for each atom the number of the round that added it, or 0.
 fn is_there(table: &[u8], a: usize) -> bool
     requires { ⌜ a < length (now table) ⌝ }
     ensures { λ r. ⌜ r ≡ has (now (table .entry)) a ⌝ }
 {
-    table[a] == 1
+    table[a] != 0
 }
 
-// Whether each of the k atoms from p on is in the table.
-fn body_holds(s: &[u16], p: usize, k: usize, table: &[u8]) -> bool
+// Whether it was there before this round.
+fn was_there(table: &[u8], a: usize, round: u8) -> bool
+    requires { ⌜ a < length (now table) ⌝ }
+    ensures { λ r. ⌜ r ≡ before round (now (table .entry)) a ⌝ }
+{
+    if is_there(table, a) {
+        table[a] < round
+    } else {
+        false
+    }
+}
+
+// Whether each of the k atoms from p on was there before this round.
+fn body_holds(s: &[u16], p: usize, k: usize, round: u8, table: &[u8]) -> bool
     requires { ⌜ (p + k ≤ length (now s)) × ((x : ℕ) → x ∈ part (now s) p k → x < length (now table)) ⌝ }
-    ensures { λ r. ⌜ r ≡ all (has (now (table .entry))) (part (now (s .entry)) p k) ⌝ }
+    ensures { λ r. ⌜ r ≡ all (before round (now (table .entry))) (part (now (s .entry)) p k) ⌝ }
 {
     let mut left = k;
     let mut at = p;
     while 0 < left {
-        if !is_there(table, promise::word(s, at)) {
+        if !was_there(table, promise::word(s, at), round) {
             return false;
         }
         at += 1;
@@ -62,136 +76,132 @@ fn body_holds(s: &[u16], p: usize, k: usize, table: &[u8]) -> bool
     true
 }
 
-// The clause adds its head to the new table where the old one has its body.
-fn fire(s: &[u16], c: ClauseAt, old: &[u8], new: &mut [u8])
-    requires { ⌜ Fires (length (now old)) (now s) c × (length (now new) ≡ length (now old)) ⌝ }
-    ensures { λ _. ⌜ now (new .exit) ≡ fireOne (now (old .entry)) (clauseOf (now (s .entry)) c) (now (new .entry)) ⌝ }
+// The clause adds its head, with the round's number, where that is not there and its body was before the round.
+fn fire(s: &[u16], c: ClauseAt, round: u8, table: &mut [u8])
+    requires { ⌜ Fires (length (now table)) (now s) c ⌝ }
+    ensures { λ _. ⌜ now (table .exit) ≡ fireOne round (clauseOf (now (s .entry)) c) (now (table .entry)) ⌝ }
 {
     let p = c.body;
     let k = c.count;
     let h = c.head;
-    if body_holds(s, p, k, old) {
-        new[h] = 1;
+    if !is_there(table, h) && body_holds(s, p, k, round, table) {
+        table[h] = round;
     }
 }
 
 // The same, if b.
-fn fire_if(s: &[u16], c: ClauseAt, b: bool, old: &[u8], new: &mut [u8])
-    requires { ⌜ Fires (length (now old)) (now s) c × (length (now new) ≡ length (now old)) ⌝ }
-    ensures { λ _. ⌜ now (new .exit) ≡ choose b (fireOne (now (old .entry)) (clauseOf (now (s .entry)) c) (now (new .entry))) (now (new .entry)) ⌝ }
+fn fire_if(s: &[u16], c: ClauseAt, b: bool, round: u8, table: &mut [u8])
+    requires { ⌜ Fires (length (now table)) (now s) c ⌝ }
+    ensures { λ _. ⌜ now (table .exit) ≡ choose b (fireOne round (clauseOf (now (s .entry)) c) (now (table .entry))) (now (table .entry)) ⌝ }
 {
     if b {
-        fire(s, c, old, new);
+        fire(s, c, round, table);
     }
 }
 
 // Fires the clause at `at`, and answers the place after it.
-fn fire_at(s: &[u16], at: usize, old: &[u8], new: &mut [u8]) -> usize
-    requires { ⌜ ClauseFits (length (now old)) (now s) at × (length (now new) ≡ length (now old)) ⌝ }
-    ensures { λ r. ⌜ (r ≡ clauseAt (now (s .entry)) at .next) × (now (new .exit) ≡ fireOne (now (old .entry)) (clauseOf (now (s .entry)) (clauseAt (now (s .entry)) at)) (now (new .entry))) ⌝ }
+fn fire_at(s: &[u16], at: usize, round: u8, table: &mut [u8]) -> usize
+    requires { ⌜ ClauseFits (length (now table)) (now s) at ⌝ }
+    ensures { λ r. ⌜ (r ≡ clauseAt (now (s .entry)) at .next) × (now (table .exit) ≡ fireOne round (clauseOf (now (s .entry)) (clauseAt (now (s .entry)) at)) (now (table .entry))) ⌝ }
 {
     let c = promise::clause_at(s, at);
-    fire(s, c, old, new);
+    fire(s, c, round, table);
     c.next
 }
 
 // The k clauses of a witness from p on.
-fn fire_clauses(s: &[u16], p: usize, k: usize, old: &[u8], new: &mut [u8])
-    requires { ⌜ Fit (credential (length (now old))) (now s) p k × (length (now new) ≡ length (now old)) ⌝ }
-    ensures { λ _. ⌜ now (new .exit) ≡ fireAll (now (old .entry)) (many (credential (length (now (old .entry)))) (now (s .entry)) p k) (now (new .entry)) ⌝ }
+fn fire_clauses(s: &[u16], p: usize, k: usize, round: u8, table: &mut [u8])
+    requires { ⌜ Fit (credential (length (now table))) (now s) p k ⌝ }
+    ensures { λ _. ⌜ now (table .exit) ≡ fireAll round (many (credential (length (now (table .entry)))) (now (s .entry)) p k) (now (table .entry)) ⌝ }
 {
     let mut at = p;
     let mut left = k;
     while 0 < left {
-        at = fire_at(s, at, old, new);
+        at = fire_at(s, at, round, table);
         left -= 1;
     }
 }
 
 // Fires the dossier's clause at `at` if every clause counts or it is visible, and answers the place after it.
-fn fire_marked_at(s: &[u16], at: usize, every: bool, old: &[u8], new: &mut [u8]) -> usize
-    requires { ⌜ ClauseFits (length (now old)) (now s) (at + 1) × (length (now new) ≡ length (now old)) ⌝ }
-    ensures { λ r. ⌜ (r ≡ markedAt (now (s .entry)) at .clause .next) × (now (new .exit) ≡ fireMarked every (now (old .entry)) (markedOf (now (s .entry)) (markedAt (now (s .entry)) at)) (now (new .entry))) ⌝ }
+fn fire_marked_at(s: &[u16], at: usize, every: bool, round: u8, table: &mut [u8]) -> usize
+    requires { ⌜ ClauseFits (length (now table)) (now s) (at + 1) ⌝ }
+    ensures { λ r. ⌜ (r ≡ markedAt (now (s .entry)) at .clause .next) × (now (table .exit) ≡ fireMarked every round (markedOf (now (s .entry)) (markedAt (now (s .entry)) at)) (now (table .entry))) ⌝ }
 {
     let m = promise::marked_at(s, at);
     let c = m.clause;
-    fire_if(s, c, either(every, m.visible), old, new);
+    fire_if(s, c, either(every, m.visible), round, table);
     c.next
 }
 
 // The k clauses of the dossier from p on: all of them, or the visible ones.
-fn fire_marked(s: &[u16], p: usize, k: usize, every: bool, old: &[u8], new: &mut [u8])
-    requires { ⌜ Fit (marked (length (now old))) (now s) p k × (length (now new) ≡ length (now old)) ⌝ }
-    ensures { λ _. ⌜ now (new .exit) ≡ fireAll (now (old .entry)) (kept every (many (marked (length (now (old .entry)))) (now (s .entry)) p k)) (now (new .entry)) ⌝ }
+fn fire_marked(s: &[u16], p: usize, k: usize, every: bool, round: u8, table: &mut [u8])
+    requires { ⌜ Fit (marked (length (now table))) (now s) p k ⌝ }
+    ensures { λ _. ⌜ now (table .exit) ≡ fireAll round (kept every (many (marked (length (now (table .entry)))) (now (s .entry)) p k)) (now (table .entry)) ⌝ }
 {
     let mut at = p;
     let mut left = k;
     while 0 < left {
-        at = fire_marked_at(s, at, every, old, new);
+        at = fire_marked_at(s, at, every, round, table);
         left -= 1;
     }
 }
 
 // Fires the credential whose number stands at `at`; `creds` has where each credential begins.
-fn fire_named(d: &[u16], creds: &[usize], at: usize, old: &[u8], new: &mut [u8])
-    requires { ⌜ NamedFits (length (now old)) (now creds) (now d) at × (length (now new) ≡ length (now old)) ⌝ }
-    ensures { λ _. ⌜ now (new .exit) ≡ fireOne (now (old .entry)) (clauseOf (now (d .entry)) (namedAt (now (creds .entry)) (now (d .entry)) at)) (now (new .entry)) ⌝ }
+fn fire_named(d: &[u16], creds: &[usize], at: usize, round: u8, table: &mut [u8])
+    requires { ⌜ NamedFits (length (now table)) (now creds) (now d) at ⌝ }
+    ensures { λ _. ⌜ now (table .exit) ≡ fireOne round (clauseOf (now (d .entry)) (namedAt (now (creds .entry)) (now (d .entry)) at)) (now (table .entry)) ⌝ }
 {
     let i = promise::word(d, at);
-    fire_at(d, creds[i], old, new);
+    fire_at(d, creds[i], round, table);
 }
 
 // The credentials that the k numbers from q on name.
-fn fire_chosen(d: &[u16], creds: &[usize], q: usize, k: usize, old: &[u8], new: &mut [u8])
-    requires { ⌜ Fit (named (length (now old)) (now creds)) (now d) q k × (length (now new) ≡ length (now old)) ⌝ }
-    ensures { λ _. ⌜ now (new .exit) ≡ fireAll (now (old .entry)) (many (named (length (now (old .entry))) (now (creds .entry))) (now (d .entry)) q k) (now (new .entry)) ⌝ }
+fn fire_chosen(d: &[u16], creds: &[usize], q: usize, k: usize, round: u8, table: &mut [u8])
+    requires { ⌜ Fit (named (length (now table)) (now creds)) (now d) q k ⌝ }
+    ensures { λ _. ⌜ now (table .exit) ≡ fireAll round (many (named (length (now (table .entry))) (now (creds .entry))) (now (d .entry)) q k) (now (table .entry)) ⌝ }
 {
     let mut place = q;
     let mut left = k;
     while 0 < left {
-        fire_named(d, creds, place, old, new);
+        fire_named(d, creds, place, round, table);
         place += 1;
         left -= 1;
     }
 }
 
 // The clauses of the policy that is evaluated.
-fn fire_policy(d: &[u16], o: Layout, w: &[u16], which: Which, old: &[u8], new: &mut [u8])
-    requires { ⌜ Laid (now d) o × WhichFits (o .atoms) (now w) which × (length (now old) ≡ o .atoms) × (length (now new) ≡ length (now old)) ⌝ }
-    ensures { λ _. ⌜ now (new .exit) ≡ fireAll (now (old .entry)) (policyAt (now (d .entry)) o (now (w .entry)) which) (now (new .entry)) ⌝ }
+fn fire_policy(d: &[u16], o: Layout, w: &[u16], which: Which, round: u8, table: &mut [u8])
+    requires { ⌜ Laid (now d) o × WhichFits (o .atoms) (now w) which × (length (now table) ≡ o .atoms) ⌝ }
+    ensures { λ _. ⌜ now (table .exit) ≡ fireAll round (policyAt (now (d .entry)) o (now (w .entry)) which) (now (table .entry)) ⌝ }
 {
     let c = o.clauses;
     let k = o.nclauses;
     match which {
         Which::Own => {
-            fire_marked(d, c, k, true, old, new);
+            fire_marked(d, c, k, true, round, table);
         }
         Which::Tried(j) => {
-            fire_clauses(w, 2, j, old, new);
-            fire_marked(d, c, k, false, old, new);
+            fire_clauses(w, 2, j, round, table);
+            fire_marked(d, c, k, false, round, table);
         }
     }
 }
 
-// Copies the whole of src to dst, which is as long. Answers whether they were the same.
-fn copy(src: &[u8], dst: &mut [u8]) -> bool
-    requires { ⌜ length (now dst) ≡ length (now src) ⌝ }
-    ensures { λ r. ⌜ (now (dst .exit) ≡ now (src .entry)) × (r ≡ same (now (dst .entry)) (now (src .entry))) ⌝ }
+// Whether this round added an atom.
+fn adds(table: &[u8], round: u8) -> bool
+    ensures { λ r. ⌜ r ≡ any (λ x. x is round) (now (table .entry)) ⌝ }
 {
-    let mut alike = true;
     let mut i = 0;
-    while i < src.len() {
-        if dst[i] != src[i] {
-            alike = false;
+    while i < table.len() {
+        if table[i] == round {
+            return true;
         }
-        dst[i] = src[i];
         i += 1;
     }
-    alike
+    false
 }
 
-// One round over the policy joined with the entry's credentials. It reads the table as it was before, which `old` has; then `old` has the new one.
-// Answers whether the round added nothing.
+// One round over the policy joined with the entry's credentials. Answers whether it added an atom.
 fn one_round(
     d: &[u16],
     o: Layout,
@@ -199,32 +209,28 @@ fn one_round(
     w: &[u16],
     which: Which,
     e: EntryAt,
-    old: &mut [u8],
+    round: u8,
     table: &mut [u8],
 ) -> bool
-    requires { ⌜ Sources (now d) o (now creds) (now w) which e × (length (now table) ≡ o .atoms) × (now old ≡ now table) ⌝ }
-    ensures { λ r. ⌜ (now (table .exit) ≡ fireAll (now (table .entry)) (joinedAt (now (d .entry)) o (now (w .entry)) which e) (now (table .entry)))
-        × (now (old .exit) ≡ now (table .exit)) × (r ≡ same (now (table .entry)) (now (table .exit))) ⌝ }
+    requires { ⌜ Sources (now d) o (now creds) (now w) which e × (length (now table) ≡ o .atoms) ⌝ }
+    ensures { λ r. ⌜ (now (table .exit) ≡ fireAll round (joinedAt (now (d .entry)) o (now (w .entry)) which e) (now (table .entry))) × (r ≡ any (λ x. x is round) (now (table .exit))) ⌝ }
 {
-    fire_policy(d, o, w, which, old, table);
-    fire_chosen(d, creds, e.creds, e.count, old, table);
-    copy(table, old)
+    fire_policy(d, o, w, which, round, table);
+    fire_chosen(d, creds, e.creds, e.count, round, table);
+    adds(table, round)
 }
 
-// What 64 rounds give. It stops at a round that adds nothing.
+// For each atom the number of the round that first adds it, 0 if none does. It stops at a round that adds none.
 fn run(d: &[u16], o: Layout, creds: &[usize], w: &[u16], which: Which, e: EntryAt, table: &mut [u8])
-    requires { ⌜ Sources (now d) o (now creds) (now w) which e × (length (now table) ≡ o .atoms) ⌝ }
-    ensures { λ _. ⌜ now (table .exit) ≡ rounds (joinedAt (now (d .entry)) o (now (w .entry)) which e) 64 (now (table .entry)) ⌝ }
+    requires { ⌜ Sources (now d) o (now creds) (now w) which e × (now table ≡ replicate (o .atoms) 0) ⌝ }
+    ensures { λ _. ⌜ now (table .exit) ≡ rows (firstRound (joinedAt (now (d .entry)) o (now (w .entry)) which e)) (o .atoms) ⌝ }
 {
-    let mut old = [0u8; 64];
-    let n = table.len();
-    copy(table, &mut old[..n]);
-    let mut left = 64usize;
-    while 0 < left {
-        if one_round(d, o, creds, w, which, e, &mut old[..n], table) {
+    let mut round = 0u8;
+    while round < 64 {
+        round += 1;
+        if !one_round(d, o, creds, w, which, e, round, table) {
             return;
         }
-        left -= 1;
     }
 }
 
@@ -233,6 +239,24 @@ fn none() -> [u8; 64]
     ensures { λ r. ⌜ r ≡ replicate 64 0 ⌝ }
 {
     [0u8; 64]
+}
+
+// The same numbers; and 0 beyond the atoms.
+fn first_rounds(
+    d: &[u16],
+    o: Layout,
+    creds: &[usize],
+    w: &[u16],
+    which: Which,
+    e: EntryAt,
+) -> [u8; 64]
+    requires { ⌜ Sources (now d) o (now creds) (now w) which e ⌝ }
+    ensures { λ r. ⌜ r ≡ filled (firstRound (joinedAt (now (d .entry)) o (now (w .entry)) which e)) (o .atoms) (replicate 64 0) ⌝ }
+{
+    let n = o.atoms;
+    let mut table = none();
+    run(d, o, creds, w, which, e, &mut table[..n]);
+    table
 }
 
 // The truth of two operands joined by the word x: 258 is and, 259 or.
@@ -291,10 +315,41 @@ pub fn answer_at(d: &[u16], o: Layout, creds: &[usize], w: &[u16], which: Which,
     let e = promise::entry_at(d, p);
     let f = e.formula;
     let n = o.atoms;
-    let mut table = none();
-    run(d, o, creds, w, which, e, &mut table[..n]);
+    let table = first_rounds(d, o, creds, w, which, e);
     let v = truth_at(d, f, 16, &table[..n]);
     v.holds
+}
+
+// Writes the numbers to the start of the table, which is as long or longer; the words beyond stay.
+fn widen(src: &[u8], dst: &mut [u16])
+    requires { ⌜ length (now src) ≤ length (now dst) ⌝ }
+    ensures { λ _. ⌜ now (dst .exit) ≡ now (src .entry) ++ drop (length (now (src .entry))) (now (dst .entry)) ⌝ }
+{
+    let mut i = 0;
+    while i < src.len() {
+        dst[i] = src[i] as u16;
+        i += 1;
+    }
+}
+
+// For each atom the number of the round that first adds it in a policy with the credentials of the entry at p, 0 if none does,
+// from the table's start; the words beyond stay.
+pub fn rounds_at(
+    d: &[u16],
+    o: Layout,
+    creds: &[usize],
+    w: &[u16],
+    which: Which,
+    p: usize,
+    table: &mut [u16],
+)
+    requires { ⌜ Ready (now d) o (now creds) (now w) which × EntryFits (o .atoms) (o .ncreds) (now d) p × (o .atoms ≤ length (now table)) ⌝ }
+    ensures { λ _. ⌜ now (table .exit) ≡ filled (roundOf (now (d .entry)) o (now (w .entry)) which p) (o .atoms) (now (table .entry)) ⌝ }
+{
+    let e = promise::entry_at(d, p);
+    let n = o.atoms;
+    let found = first_rounds(d, o, creds, w, which, e);
+    widen(&found[..n], table);
 }
 
 // An answer as a word.

@@ -1,13 +1,13 @@
 -- Laws of things that lie one after the other, and of tables filled from their start.
 use Prim.Native.Nat.{ℕ, zero, suc, _+_, _-_, _<_, _≤_}
 use mathlib.Core.Path.{_≡_, refl, sym, ap, _∙_, subst}
-use mathlib.Core.List.{List, [], _∷_, _++_, append-assoc, List·Memᴰ·head, List·Memᴰ·tail, List·Memᴰ·not-nil}
+use mathlib.Core.List.{List, [], _∷_, _++_, append-assoc, append-nil, List·Memᴰ·head, List·Memᴰ·tail, List·Memᴰ·not-nil}
 use mathlib.Core.Option.{none, some}
 use native.Mathlib.Omega.{arith}
 use native.Mathlib.Numerals.{add-one}
 use native.Mathlib.Decide.{decLt}
 use lib.ListN.{length, getD, take, drop, set, length-append, length-drop}
-use lib.Seq.{set-at, getD-append-seam, drop-cons}
+use lib.Seq.{set-at, getD-append-seam, drop-cons, ext-getD}
 use Rattle.meaning.specs.Tests.{_∈_, at}
 use Rattle.promise.specs.Place.{part, Kind, place, many, Fit, Starts, rows, filled}
 
@@ -107,6 +107,13 @@ rows-at f (suc k) j rest h = rw (append-assoc (rows f k) (f k ∷ []) rest) (go 
     go : Dec (j < k) → (j < k → getD (rows f k ++ (f k ∷ rest)) j 0 ≡ f j) → getD (rows f k ++ (f k ∷ rest)) j 0 ≡ f j
     go (yes i) ih = ih i
     go (no ni) ih = let e : j ≡ k = omega arith in rw e (ap (λ (n : ℕ). getD (rows f k ++ (f k ∷ rest)) n 0) (sym (rows-length f k)) ∙ getD-append-seam (rows f k) (f k) rest 0)
+
+pub rows-get : (f : ℕ → ℕ) (k j : ℕ) → j < k → getD (rows f k) j 0 ≡ f j
+rows-get f k j h = ap (λ (l : List ℕ). getD l j 0) (sym (append-nil (rows f k))) ∙ rows-at f k j [] h
+
+-- a table that has these values is their rows
+pub rows-are : (f : ℕ → ℕ) (k : ℕ) (t : List ℕ) → length t ≡ k → ((j : ℕ) → j < k → getD t j 0 ≡ f j) → t ≡ rows f k
+rows-are f k t l h = ext-getD 0 t (rows f k) (l ∙ sym (rows-length f k)) (λ j i. h j (omega arith) ∙ sym (rows-get f k j (omega arith)))
 
 -- entry j of a filled table, and its length
 pub filled-at : (f : ℕ → ℕ) (k j : ℕ) (old : List ℕ) → j < k → getD (filled f k old) j 0 ≡ f j

@@ -1,6 +1,6 @@
 -- `evaluation::body_holds` meets its contract. The invariant: what is left of the body answers as the whole does.
 use Prim.Native.Nat.{ℕ, _+_, _≤_, _<_}
-use Rattle.evaluation.specs.Table.{has}
+use Rattle.evaluation.specs.Table.{before}
 use Rattle.meaning.specs.Tests.{_∈_, all}
 use Rattle.promise.proofs.Place.{part-none, part-cons, part-first, part-later}
 use Rattle.promise.proofs.Step.{all-none, all-on, all-not}
@@ -13,10 +13,10 @@ use Rattle.evaluation.proofs.body_holds.Statement.{statement}
 use Rattle.evaluation.proofs.body_holds.Tie as tie
 
 abbrev Inv-loop : tie.InvT-loop
-Inv-loop s p k table left₀ at₀ left at = (at + left ≤ length s) × ((x : ℕ) → x ∈ part s at left → x < length table) × (all (has table) (part s p k) ≡ all (has table) (part s at left))
+Inv-loop s p k round table left₀ at₀ left at = (at + left ≤ length s) × ((x : ℕ) → x ∈ part s at left → x < length table) × (all (before round table) (part s p k) ≡ all (before round table) (part s at left))
 
 abbrev μ-loop : tie.MeasureT-loop
-μ-loop s p k table left₀ at₀ left at = left
+μ-loop s p k round table left₀ at₀ left at = left
 
 loop-holds : tie.Need-loop-holds Inv-loop μ-loop
 loop-holds c =
@@ -26,15 +26,15 @@ loop-holds c =
 word-requires : tie.Need-word-requires Inv-loop μ-loop
 word-requires c κs = search needs
 
-is-there-requires : tie.Need-is-there-requires Inv-loop μ-loop
-is-there-requires c κs =
+was-there-requires : tie.Need-was-there-requires Inv-loop μ-loop
+was-there-requires c κs =
     let turn = c .before .before .loop in
     rw (c .word .ensures .0) (turn .inv .1 _ (part-first _ _ _ (c .before .loop-test .taken) (turn .inv .0)))
 
 returns : tie.Need-returns Inv-loop μ-loop
 returns c =
     let turn = c .before .before .before .before .loop in
-    sym (turn .inv .2 ∙ all-not _ (part-cons _ _ _ (c .before .before .before .loop-test .taken) (turn .inv .0)) (ap (has (c .before .before .before .before .before .before .before .args .table .now)) (sym (c .before .before .word .ensures .0)) ∙ sym (c .before .is-there .ensures) ∙ not-true _ (c .if1 .taken)))
+    sym (turn .inv .2 ∙ all-not _ (part-cons _ _ _ (c .before .before .before .loop-test .taken) (turn .inv .0)) (ap (before (c .before .before .before .before .before .before .before .args .round) (c .before .before .before .before .before .before .before .args .table .now)) (sym (c .before .before .word .ensures .0)) ∙ sym (c .before .was-there .ensures) ∙ not-true _ (c .if1 .taken)))
 
 add-at : tie.Need-add-at Inv-loop μ-loop
 add-at c = search needs
@@ -49,7 +49,7 @@ loop-again : tie.Need-loop-again Inv-loop μ-loop
 loop-again c =
     let l = c .before .before .before .before .loop in
     let h = c .before .before .before .loop-test .taken in
-    (search needs, (λ x m. l .inv .1 x (part-later _ _ _ h (l .inv .0) m)), l .inv .2 ∙ all-on _ (part-cons _ _ _ h (l .inv .0)) (ap (has (c .before .before .before .before .before .before .before .args .table .now)) (sym (c .before .before .word .ensures .0)) ∙ sym (c .before .is-there .ensures) ∙ not-false _ (c .if1 .left)))
+    (search needs, (λ x m. l .inv .1 x (part-later _ _ _ h (l .inv .0) m)), l .inv .2 ∙ all-on _ (part-cons _ _ _ h (l .inv .0)) (ap (before (c .before .before .before .before .before .before .before .args .round) (c .before .before .before .before .before .before .before .args .table .now)) (sym (c .before .before .word .ensures .0)) ∙ sym (c .before .was-there .ensures) ∙ not-false _ (c .if1 .left)))
 
 returns-2 : tie.Need-returns-2 Inv-loop μ-loop
 returns-2 c = sym (c .before .loop .inv .2 ∙ all-none _ (part-none _ _ _ (c .loop-test .left)))
@@ -62,7 +62,7 @@ body-holds-spec =
     μ-loop
     loop-holds
     word-requires
-    is-there-requires
+    was-there-requires
     returns
     add-at
     sub-left

@@ -2,25 +2,25 @@
 use borrow.Author.Needs.{needs}
 use lib.ListN.{length}
 use native.Mathlib.Omega.{arith}
-use mathlib.Core.Path.{refl, _∙_}
+use mathlib.Core.Path.{refl}
 use Rattle.evaluation.proofs.Firing.{firing, Left, left-all, left-first, left-on, left-none}
 use Rattle.evaluation.specs.Which.{named}
 use Rattle.evaluation.proofs.fire_chosen.Statement.{statement}
 use Rattle.evaluation.proofs.fire_chosen.Tie as tie
 
 abbrev Inv-loop : tie.InvT-loop
-Inv-loop d creds q k old new₀ place₀ left₀ new place left = Left (firing old) (named (length old) creds) d q k new₀ place left new
+Inv-loop d creds q k round table₀ place₀ left₀ table place left = Left (firing round) (named (length table₀) creds) d q k table₀ place left table
 
 abbrev μ-loop : tie.MeasureT-loop
-μ-loop d creds q k old new₀ place₀ left₀ new place left = left
+μ-loop d creds q k round table₀ place₀ left₀ table place left = left
 
 loop-holds : tie.Need-loop-holds Inv-loop μ-loop
-loop-holds c = left-all _ _ _ _ _ _ (c .before .before .before .before .pre .0)
+loop-holds c = left-all _ _ _ _ _ _ (c .before .before .before .pre)
 
 fire-named-requires : tie.Need-fire-named-requires Inv-loop μ-loop
 fire-named-requires c κs =
     let turn = c .before .before .loop in
-    (left-first _ _ _ _ _ _ (turn .inv) (c .before .loop-test .taken), turn .inv .size ∙ c .before .before .before .before .before .before .before .pre .1)
+    rw (turn .inv .size) (left-first _ _ _ _ _ _ (turn .inv) (c .before .loop-test .taken))
 
 add-place : tie.Need-add-place Inv-loop μ-loop
 add-place c = omega (arith, left-first _ _ _ _ _ _ (c .before .before .before .before .before .loop .inv) (c .before .before .before .before .loop-test .taken) .there)

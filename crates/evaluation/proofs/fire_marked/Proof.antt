@@ -1,25 +1,24 @@
 -- `evaluation::fire_marked` meets its contract. The invariant: firing what is left on the table so far is firing all.
 use borrow.Author.Needs.{needs}
 use lib.ListN.{length}
-use mathlib.Core.Path.{_∙_}
 use Rattle.evaluation.proofs.Firing.{keeping, Left, left-all, left-first, left-on, left-none}
 use Rattle.promise.specs.Clause.{marked}
 use Rattle.evaluation.proofs.fire_marked.Statement.{statement}
 use Rattle.evaluation.proofs.fire_marked.Tie as tie
 
 abbrev Inv-loop : tie.InvT-loop
-Inv-loop s p k every old new₀ at₀ left₀ new at left = Left (keeping every old) (marked (length old)) s p k new₀ at left new
+Inv-loop s p k every round table₀ at₀ left₀ table at left = Left (keeping every round) (marked (length table₀)) s p k table₀ at left table
 
 abbrev μ-loop : tie.MeasureT-loop
-μ-loop s p k every old new₀ at₀ left₀ new at left = left
+μ-loop s p k every round table₀ at₀ left₀ table at left = left
 
 loop-holds : tie.Need-loop-holds Inv-loop μ-loop
-loop-holds c = left-all _ _ _ _ _ _ (c .before .before .before .pre .0)
+loop-holds c = left-all _ _ _ _ _ _ (c .before .before .pre)
 
 fire-marked-at-requires : tie.Need-fire-marked-at-requires Inv-loop μ-loop
 fire-marked-at-requires c κs =
     let turn = c .before .before .loop in
-    (left-first _ _ _ _ _ _ (turn .inv) (c .before .loop-test .taken), turn .inv .size ∙ c .before .before .before .before .before .before .pre .1)
+    rw (turn .inv .size) (left-first _ _ _ _ _ _ (turn .inv) (c .before .loop-test .taken))
 
 sub-left : tie.Need-sub-left Inv-loop μ-loop
 sub-left c = search needs

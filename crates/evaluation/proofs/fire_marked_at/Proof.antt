@@ -19,8 +19,8 @@ either-requires c κs = search needs
 
 fire-if-requires : tie.Need-fire-if-requires
 fire-if-requires c κs =
-    let start = c .before .before .before .before .before .before .before in
-    (fires (ap (λ (v : MarkedAt). v .clause) (c .before .before .before .marked-at .ensures)) (start .pre .0), start .pre .1)
+    let start = c .before .before .before .before .before .before in
+    fires (ap (λ (v : MarkedAt). v .clause) (c .before .before .before .marked-at .ensures)) (start .pre)
 
 same-length : tie.Need-same-length
 same-length c = search needs
@@ -28,10 +28,10 @@ same-length c = search needs
 returns : tie.Need-returns
 unfolding fireMarked
 returns c =
-    let a = c .before .before .before .before .before .before .before .before .before .before .args in
+    let a = c .before .before .before .before .before .before .before .before .before .args in
     let e = c .before .before .before .before .before .before .marked-at .ensures in
     let v = c .before .before .before .before .before .before .marked-at .result in
-    (ap (λ (m : MarkedAt). m .clause .next) e, c .before .before .fire-if .ensures ∙ ap (λ (b : Bool). choose b (fireOne (a .old .now) (clauseOf (a .s .now) (v .clause)) (a .new .now)) (a .new .now)) (c .before .before .before .before .either .ensures) ∙ ap (λ (m : MarkedAt). fireMarked (a .every) (a .old .now) (markedOf (a .s .now) m) (a .new .now)) e)
+    (ap (λ (m : MarkedAt). m .clause .next) e, c .before .before .fire-if .ensures ∙ ap (λ (b : Bool). choose b (fireOne (a .round) (clauseOf (a .s .now) (v .clause)) (a .table .now)) (a .table .now)) (c .before .before .before .before .either .ensures) ∙ ap (λ (m : MarkedAt). fireMarked (a .every) (a .round) (markedOf (a .s .now) m) (a .table .now)) e)
 
 pub fire-marked-at-spec : {M : Type 1} → statement M
 fire-marked-at-spec =

@@ -19,16 +19,16 @@ shared-slice-read-fire-at c = search needs
 
 fire-at-requires : tie.Need-fire-at-requires
 fire-at-requires c κs =
-    let start = c .before .before .before .before .before .before .before in
-    (rw (c .before .before .word .ensures .0) (start .pre .0 .fits), start .pre .1)
+    let start = c .before .before .before .before .before .before in
+    rw (c .before .before .word .ensures .0) (start .pre .fits)
 
 same-length : tie.Need-same-length
 same-length c = search needs
 
 returns : tie.Need-returns
 returns c =
-    let a = c .before .before .before .before .before .before .before .before .before .before .args in
-    c .before .before .fire-at .ensures .1 ∙ ap (λ (i : ℕ). fireOne (a .old .now) (clauseOf (a .d .now) (clauseAt (a .d .now) (getD (a .creds .now) i 0))) (a .new .now)) (c .before .before .before .before .before .word .ensures .0)
+    let a = c .before .before .before .before .before .before .before .before .before .args in
+    c .before .before .fire-at .ensures .1 ∙ ap (λ (i : ℕ). fireOne (a .round) (clauseOf (a .d .now) (clauseAt (a .d .now) (getD (a .creds .now) i 0))) (a .table .now)) (c .before .before .before .before .before .word .ensures .0)
 
 pub fire-named-spec : {M : Type 1} → statement M
 fire-named-spec =
