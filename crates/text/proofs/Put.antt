@@ -12,7 +12,7 @@ use Rattle.reply.specs.declared.Paper.the-variants.{Dossier, Certificate}
 use Rattle.reply.specs.declared.Verdict.{Verdict}
 use Rattle.reply.specs.declared.Verdict.the-variants.{Opaque, Detectable, Refused}
 use Rattle.reply.specs.declared.Reply.{Reply}
-use Rattle.text.specs.Line.{put, digitsOf, nameOf, decimal, refusalOf, refusalLine, verdictLine, lineOf, inputLine}
+use Rattle.text.specs.Line.{put, digitsOf, nameOf, decimal, refusalOf, verdictText, replyText, lineOf, inputLine}
 
 -- nothing yet
 pub put-none : (t : List ℕ) (at : ℕ) → t ≡ put t at []
@@ -137,15 +137,19 @@ pub refusal-short : (number : ℕ) (paper : Paper) (place count : ℕ) → lengt
 unfolding refusalOf decimal
 refusal-short number paper place count = simp length-append (omega (arith, digits-short 20 number, name-short paper, digits-short 20 place, digits-short 20 count))
 
--- no line is longer than 96 bytes
-pub line-short : (r : Reply) → length (lineOf r) ≤ 96
-unfolding lineOf verdictLine refusalLine
-line-short r = go (r .verdict) (r .paper) (r .place) (r .count)
+pub reply-short : (r : Reply) → length (replyText r) ≤ 82
+unfolding replyText verdictText
+reply-short r = go (r .verdict) (r .paper) (r .place) (r .count)
   where
-    go : (v : Verdict) (p : Paper) (place count : ℕ) → length (verdictLine v p place count) ≤ 96
+    go : (v : Verdict) (p : Paper) (place count : ℕ) → length (verdictText v p place count) ≤ 82
     go Opaque p place count = omega arith
     go Detectable p place count = omega arith
-    go (Refused n) p place count = omega (arith, length-append (refusalOf n p place count) (10 ∷ []), refusal-short n p place count)
+    go (Refused n) p place count = refusal-short n p place count
+
+-- no line is longer than 96 bytes
+pub line-short : (r : Reply) → length (lineOf r) ≤ 96
+unfolding lineOf
+line-short r = omega (arith, length-append (replyText r) (10 ∷ []), reply-short r)
 
 pub input-line-short : length inputLine ≤ 96
 unfolding inputLine

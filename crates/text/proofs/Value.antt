@@ -9,11 +9,11 @@ use native.Mathlib.Nat.{div-add-mod', pow-suc}
 use Rattle.reply.specs.Answer.{refused}
 use Rattle.reply.specs.declared.Paper.the-variants.{Dossier}
 use Rattle.text.proofs.Put.{digits-one, digits-more}
-use Rattle.text.specs.Line.{digitsOf, decimal, nameOf, refusalOf, refusalLine, verdictLine, lineOf}
+use Rattle.text.specs.Line.{digitsOf, decimal, nameOf, refusalOf, verdictText, replyText, lineOf}
 
 -- 'The judge prints for (e), whole: `REFUSED 14 dossier 21 3`'
 pub line-of-e : lineOf (refused 14 Dossier 21 3) ≡ 82 ∷ 69 ∷ 70 ∷ 85 ∷ 83 ∷ 69 ∷ 68 ∷ 32 ∷ 49 ∷ 52 ∷ 32 ∷ 100 ∷ 111 ∷ 115 ∷ 115 ∷ 105 ∷ 101 ∷ 114 ∷ 32 ∷ 50 ∷ 49 ∷ 32 ∷ 51 ∷ 10 ∷ []
-unfolding lineOf verdictLine refusalLine refusalOf decimal digitsOf nameOf
+unfolding lineOf replyText verdictText refusalOf decimal digitsOf nameOf
 line-of-e = refl
 
 -- the number that digits mean, after a number that is read already

@@ -34,18 +34,18 @@ unfoldable pub refusalOf : ℕ → Paper → ℕ → ℕ → List ℕ
 refusalOf number paper place count =
     (82 ∷ 69 ∷ 70 ∷ 85 ∷ 83 ∷ 69 ∷ 68 ∷ 32 ∷ []) ++ decimal number ++ nameOf paper ++ decimal place ++ (32 ∷ []) ++ decimal count
 
+-- the text of a verdict that stands beside a paper, a place and a count, and of a reply
+unfoldable pub verdictText : Verdict → Paper → ℕ → ℕ → List ℕ
+verdictText Opaque paper place count = 79 ∷ 80 ∷ 65 ∷ 81 ∷ 85 ∷ 69 ∷ []
+verdictText Detectable paper place count = 68 ∷ 69 ∷ 84 ∷ 69 ∷ 67 ∷ 84 ∷ 65 ∷ 66 ∷ 76 ∷ 69 ∷ []
+verdictText (Refused number) paper place count = refusalOf number paper place count
+
+unfoldable pub replyText : Reply → List ℕ
+replyText r = verdictText (r .verdict) (r .paper) (r .place) (r .count)
+
 -- 'and a line feed at the end'
-unfoldable pub refusalLine : ℕ → Paper → ℕ → ℕ → List ℕ
-refusalLine number paper place count = refusalOf number paper place count ++ (10 ∷ [])
-
--- the line of a verdict that stands beside a paper, a place and a count
-unfoldable pub verdictLine : Verdict → Paper → ℕ → ℕ → List ℕ
-verdictLine Opaque paper place count = 79 ∷ 80 ∷ 65 ∷ 81 ∷ 85 ∷ 69 ∷ 10 ∷ []
-verdictLine Detectable paper place count = 68 ∷ 69 ∷ 84 ∷ 69 ∷ 67 ∷ 84 ∷ 65 ∷ 66 ∷ 76 ∷ 69 ∷ 10 ∷ []
-verdictLine (Refused number) paper place count = refusalLine number paper place count
-
 unfoldable pub lineOf : Reply → List ℕ
-lineOf r = verdictLine (r .verdict) (r .paper) (r .place) (r .count)
+lineOf r = replyText r ++ (10 ∷ [])
 
 -- 'prints INPUT'
 unfoldable pub inputLine : List ℕ

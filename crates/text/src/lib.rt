@@ -7,7 +7,7 @@ ghost use Prim.Native.Nat.{_+_, _*_, _/_, _≤_, _<_, min};
 ghost use lib.ListN.{length};
 ghost use Rattle.promise.specs.Place.{filled};
 ghost use Rattle.text.specs.Bytes.{wordAt, whole, inputOf};
-ghost use Rattle.text.specs.Line.{put, digitsOf, nameOf, refusalOf, refusalLine, lineOf, inputLine};
+ghost use Rattle.text.specs.Line.{put, digitsOf, nameOf, refusalOf, replyText, lineOf, inputLine};
 
 // What standard input holds: papers, so many words of the dossier and of the certificate; or nothing that can be judged.
 pub enum Input {
@@ -134,13 +134,20 @@ pub fn refusal(number: u16, paper: Paper, place: usize, count: usize, out: &mut 
     digits(count, 20, out, e)
 }
 
-// The line of a refusal.
-fn refusal_line(number: u16, paper: Paper, place: usize, count: usize, out: &mut [u8]) -> usize
+// Writes what the reply says, without a line feed, at the table's start; the rest of the table stays. Answers how many bytes it has.
+pub fn reply_text(reply: Reply, out: &mut [u8]) -> usize
     requires { ⌜ 96 ≤ length (now out) ⌝ }
-    ensures { λ r. ⌜ (now (out .exit) ≡ put (now (out .entry)) 0 (refusalLine number paper place count)) × (r ≡ length (refusalLine number paper place count)) ⌝ }
+    ensures { λ r. ⌜ (now (out .exit) ≡ put (now (out .entry)) 0 (replyText reply)) × (r ≡ length (replyText reply)) ⌝ }
 {
-    let end = refusal(number, paper, place, count, out);
-    write(b"\n", out, end)
+    let verdict = reply.verdict;
+    let paper = reply.paper;
+    let place = reply.place;
+    let count = reply.count;
+    match verdict {
+        Verdict::Opaque => write(b"OPAQUE", out, 0),
+        Verdict::Detectable => write(b"DETECTABLE", out, 0),
+        Verdict::Refused(number) => refusal(number, paper, place, count, out),
+    }
 }
 
 // Writes the line that the reply prints at the table's start; the rest of the table stays. Answers how many bytes the line has.
@@ -148,15 +155,8 @@ pub fn line(reply: Reply, out: &mut [u8]) -> usize
     requires { ⌜ 96 ≤ length (now out) ⌝ }
     ensures { λ r. ⌜ (now (out .exit) ≡ put (now (out .entry)) 0 (lineOf reply)) × (r ≡ length (lineOf reply)) ⌝ }
 {
-    let verdict = reply.verdict;
-    let paper = reply.paper;
-    let place = reply.place;
-    let count = reply.count;
-    match verdict {
-        Verdict::Opaque => write(b"OPAQUE\n", out, 0),
-        Verdict::Detectable => write(b"DETECTABLE\n", out, 0),
-        Verdict::Refused(number) => refusal_line(number, paper, place, count, out),
-    }
+    let end = reply_text(reply, out);
+    write(b"\n", out, end)
 }
 
 // Writes the line for input that is not papers at the table's start; the rest of the table stays. Answers how many bytes the line has.

@@ -1,69 +1,28 @@
--- `text::line` meets its contract: in each arm the verdict is known.
-use Rattle.text.specs.Line.{lineOf, verdictLine}
+-- `text::line` meets its contract: what the reply says, and a line feed after it.
+use native.Mathlib.Omega.{arith}
+use mathlib.Core.List.{[], _∷_}
+use Rattle.text.specs.Line.{lineOf}
+use Rattle.text.proofs.Put.{wrote-more, reply-short}
 use borrow.Author.Needs.{needs}
 use Rattle.text.proofs.line.Statement.{statement}
 use Rattle.text.proofs.line.Tie as tie
 
-enum-told : tie.Need-enum-told
-enum-told c = search needs
+reply-text-requires : tie.Need-reply-text-requires
+reply-text-requires c κs = search needs
 
 slice-aggregate-write : tie.Need-slice-aggregate-write
 slice-aggregate-write c = search needs
 
 write-requires : tie.Need-write-requires
-write-requires c κs = search needs
-
-enum-told-2 : tie.Need-enum-told-2
-enum-told-2 c = search needs
-
-slice-aggregate-write-2 : tie.Need-slice-aggregate-write-2
-slice-aggregate-write-2 c = search needs
-
-write-requires-2 : tie.Need-write-requires-2
-write-requires-2 c κs = search needs
-
-enum-known-verdict : tie.Need-enum-known-verdict
-enum-known-verdict c = search needs
-
-refusal-line-requires : tie.Need-refusal-line-requires
-refusal-line-requires c κs = search needs
+write-requires c κs = let a = c .before .before .before .before .before .before .before .args in omega (arith, reply-short (a .reply))
 
 same-length : tie.Need-same-length
 same-length c = search needs
 
 returns : tie.Need-returns
-unfolding lineOf verdictLine
-returns c = rw (c .before .before .before .before .before .enum-told .given .1) (c .before .before .write .ensures)
-
-same-length-2 : tie.Need-same-length-2
-same-length-2 c = search needs
-
-returns-2 : tie.Need-returns-2
-unfolding lineOf verdictLine
-returns-2 c = rw (c .before .before .before .before .before .enum-told2 .given .1) (c .before .before .write2 .ensures)
-
-same-length-3 : tie.Need-same-length-3
-same-length-3 c = search needs
-
-returns-3 : tie.Need-returns-3
-unfolding lineOf verdictLine
-returns-3 c = rw (c .before .before .before .before .before .verdict .given .1) (c .before .before .refusal-line .ensures)
+unfolding lineOf
+returns c = wrote-more (c .before .before .before .before .before .before .before .before .before .before .args .out .now) _ (10 ∷ []) (c .before .before .before .before .before .before .before .reply-text .ensures) (c .before .before .write .ensures)
 
 pub line-spec : {M : Type 1} → statement M
 line-spec =
-    tie.close
-    (tie.spec
-    enum-told
-    slice-aggregate-write
-    write-requires
-    enum-told-2
-    slice-aggregate-write-2
-    write-requires-2
-    enum-known-verdict
-    refusal-line-requires
-    same-length
-    returns
-    same-length-2
-    returns-2
-    same-length-3
-    returns-3)
+    tie.close (tie.spec reply-text-requires slice-aggregate-write write-requires same-length returns)
