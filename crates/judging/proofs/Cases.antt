@@ -5,6 +5,8 @@ use Rattle.words.specs.Out as out
 use Rattle.words.specs.Read.{ranged, next, rising, listed, times, section}
 use Rattle.words.specs.Code.{codeAll}
 use Rattle.meaning.specs.Tests.{_∈_}
+use Rattle.meaning.specs.Policy.{orZero, firstOf, firstRound}
+use Rattle.meaning.specs.Verdict.{about, roundIn}
 use Rattle.meaning.proofs.Example as meant
 use Rattle.promise.specs.Code.{codeFormula}
 use Rattle.promise.specs.Place.{place, rows, filled}
@@ -13,14 +15,15 @@ use Rattle.promise.specs.Line.{dataCount, ruleOf}
 use Rattle.promise.specs.Thing.{nextOf}
 use Rattle.dossier.specs.Read.{clause, marked, byKind, operand, formula, entry, secret, ended, sections, dossier}
 use Rattle.certificate.specs.Read.{statement, literal, spoken, literals, line, witnessFrom, proofFrom, proposal, certificate}
-use Rattle.verdict.specs.Told.{showing, replyAt}
+use Rattle.verdict.specs.Told.{showing, replyAt, numbered, roundsAt}
 use Rattle.judging.specs.Judge.{judgeProposal, judgeRead, judgeOf}
+use Rattle.judging.specs.Rounds.{roundsProposal, roundsRead, roundsAfter}
 use Rattle.judging.specs.Answers.{wordTo, countOf, tableOf, answersOf, tableAfter}
 use Rattle.judging.specs.Cases.{Case, Holds, CasesHold}
 
 -- all that reading and judging compute through
 unfoldable pub compute : Unit {0}
-unfolding out.moved out.after ranged next rising listed times section codeAll meant.compute codeFormula place rows filled layoutOf proposalOf dataCount ruleOf nextOf clause marked byKind operand formula entry secret ended sections dossier statement literal spoken literals line witnessFrom proofFrom proposal certificate showing replyAt judgeProposal judgeRead judgeOf wordTo countOf tableOf answersOf tableAfter Holds
+unfolding out.moved out.after ranged next rising listed times section codeAll meant.compute codeFormula place rows filled layoutOf proposalOf dataCount ruleOf nextOf clause marked byKind operand formula entry secret ended sections dossier statement literal spoken literals line witnessFrom proofFrom proposal certificate showing replyAt judgeProposal judgeRead judgeOf firstOf firstRound orZero about roundIn numbered roundsAt roundsProposal roundsRead roundsAfter wordTo countOf tableOf answersOf tableAfter Holds
 compute = tt
 
 -- what holds of the first row and of each other holds of each

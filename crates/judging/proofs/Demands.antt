@@ -1,11 +1,13 @@
 -- The demands of specs/Demands.antt, each under its name in small letters.
 use Prim.Native.Nat.{ℕ, _≤_, _<_}
 use mathlib.Core.Path.{_≡_, refl, sym, ap, _∙_, subst}
-use mathlib.Core.List.{List, List·Memᴰ·head, List·Memᴰ·tail}
+use mathlib.Core.List.{List, [], List·Memᴰ·head, List·Memᴰ·tail}
 use native.Mathlib.Omega.{arith}
+use lib.Dec.{leb}
+use borrow.Author.Tests.{le-leb, leb-true}
 use lib.ListN.{length, length-append}
 use Rattle.words.specs.Out.{Out, got, bad}
-use Rattle.meaning.specs.Tests.{_∈_}
+use Rattle.meaning.specs.Tests.{_∈_, choose}
 use Rattle.meaning.specs.Policy.{Policy}
 use mathlib.Core.Bool.{Bool, true, false}
 use mathlib.Core.Logic.{_↔_}
@@ -15,7 +17,9 @@ use Rattle.meaning.proofs.Truth.{yes-tested}
 use Rattle.promise.specs.Code.{bit}
 use Rattle.judging.specs.Answers.{wordTo}
 use Rattle.meaning.specs.Looks.{Detectable}
+use Rattle.meaning.specs.Formula.{Given, joined}
 use Rattle.meaning.specs.Verdict as meant
+use Rattle.meaning.specs.Verdict.{roundIn}
 use Rattle.meaning.specs.Demands as decoded
 use Rattle.meaning.specs.Extends.{Extends, WellNamed}
 use Rattle.meaning.proofs.Demands as shown
@@ -27,15 +31,16 @@ use Rattle.dossier.specs.Read.{dossier}
 use Rattle.dossier.proofs.Promise.{dossierAccepted}
 use Rattle.certificate.specs.Read.{certificate}
 use Rattle.certificate.proofs.Promise.{certificateSound, certificateAccepted, certificateMore}
-use Rattle.reply.specs.Answer.{accepted}
+use Rattle.reply.specs.Answer.{accepted, refused}
 use Rattle.reply.specs.declared.Paper.the-variants as paper
 use Rattle.reply.specs.declared.Reply.{Reply}
 use Rattle.reply.specs.declared.Verdict as said
 use Rattle.reply.specs.declared.Verdict.the-variants as verdict
+use Rattle.evaluation.proofs.Enough.{enough}
 use Rattle.verdict.specs.Told.{showing, replyAt, sizeOf}
 use Rattle.judging.specs.Judge.{Judge, judgeProposal, judgeRead, judgeOf}
 use Rattle.judging.specs.Table.{SoundFor}
-use Rattle.judging.specs.Demands.{SaysOpaque, SaysDetectable, Demand2, Demand3, AnswersMeant}
+use Rattle.judging.specs.Demands.{SaysOpaque, SaysDetectable, Demand2, Demand3, AnswersMeant, RoundsMeant}
 
 -- ---- a reply tells its outcome
 
@@ -81,65 +86,76 @@ module _ (D : Dossier) (f : DossierForm D) where
   told c C x = replyAt (codeDossier D) (layoutOf D) c (sizeOf (proposalOf C)) x
 
   -- the dossier is read first, whatever judge is asked
-  pub read-by : (judge : Judge) (c : List ℕ) → judgeRead judge (codeDossier D) (dossier (codeDossier D)) c ≡ judgeProposal judge (codeDossier D) D c (certificate (length (D .labels)) (length (D .creds)) c)
+  pub read-by : (judge : Judge) (c : List ℕ) (room : ℕ) → judgeRead judge (codeDossier D) (dossier (codeDossier D)) c room ≡ judgeProposal judge (codeDossier D) D c room (certificate (length (D .labels)) (length (D .creds)) c)
   unfolding judgeRead
-  read-by judge c = ap (λ (x : Out Dossier). judgeRead judge (codeDossier D) x c) (dossierAccepted D f)
+  read-by judge c room = ap (λ (x : Out Dossier). judgeRead judge (codeDossier D) x c room) (dossierAccepted D f)
 
-  read-first : (c : List ℕ) → judgeOf (codeDossier D) c ≡ judgeProposal meant.judge (codeDossier D) D c (certificate (length (D .labels)) (length (D .creds)) c)
+  read-first : (c : List ℕ) (room : ℕ) → judgeOf (codeDossier D) c room ≡ judgeProposal meant.judge (codeDossier D) D c room (certificate (length (D .labels)) (length (D .creds)) c)
   unfolding judgeOf
   read-first = read-by meant.judge
 
-  pub judged : (C : Certificate) → SoundFor D C → judgeOf (codeDossier D) (codeCertificate C) ≡ told (codeCertificate C) C (meant.judge D C)
-  unfolding judgeProposal
-  judged C g = read-first (codeCertificate C) ∙ ap (λ (x : Out Certificate). judgeProposal meant.judge (codeDossier D) D (codeCertificate C) x) (certificateAccepted (length (D .labels)) (length (D .creds)) C g)
+  -- with a table that is long enough
+  long-told : (c : List ℕ) (C : Certificate) (q room : ℕ) → length (D .labels) ≤ room → judgeProposal meant.judge (codeDossier D) D c room (got C q) ≡ told c C (meant.judge D C)
+  unfolding judgeProposal choose
+  long-told c C q room l = rw (le-leb _ _ l)
 
-  -- words that are not refused are a sound certificate's
-  record Meant (c : List ℕ) : Type 0 where
+  pub judged : (C : Certificate) → SoundFor D C → (room : ℕ) → length (D .labels) ≤ room → judgeOf (codeDossier D) (codeCertificate C) room ≡ told (codeCertificate C) C (meant.judge D C)
+  judged C g room l = read-first (codeCertificate C) room ∙ ap (λ (x : Out Certificate). judgeProposal meant.judge (codeDossier D) D (codeCertificate C) room x) (certificateAccepted (length (D .labels)) (length (D .creds)) C g) ∙ long-told _ C _ room l
+
+  -- words that are not refused are a sound certificate's, and the table is long enough
+  record Meant (c : List ℕ) (room : ℕ) : Type 0 where
     C : Certificate
     words : c ≡ codeCertificate C
     sound : SoundFor D C
-    reply : judgeOf (codeDossier D) c ≡ told c C (meant.judge D C)
+    reply : judgeOf (codeDossier D) c room ≡ told c C (meant.judge D C)
 
-  not-refused : (c : List ℕ) (out : Out Certificate) → certificate (length (D .labels)) (length (D .creds)) c ≡ out → (tag (judgeProposal meant.judge (codeDossier D) D c out .verdict) < 2) → Meant c
-  unfolding judgeProposal tag
-  not-refused c (got C q) e h =
-      let s = certificateSound (length (D .labels)) (length (D .creds)) c C q e in
-      record { C = C; words = s .0; sound = s .1; reply = read-first c ∙ ap (λ (x : Out Certificate). judgeProposal meant.judge (codeDossier D) D c x) e }
-  not-refused c (bad e p w) g h = absurd (omega arith)
-
-  accepted-meant : (c : List ℕ) → tag (judgeOf (codeDossier D) c .verdict) < 2 → Meant c
-  accepted-meant c h = not-refused c (certificate (length (D .labels)) (length (D .creds)) c) refl (subst (λ (r : Reply). tag (r .verdict) < 2) (read-first c) h)
-
-  pub opaque-meant : (c : List ℕ) → SaysOpaque (codeDossier D) c → (W : Policy) × (c ≡ codeCertificate (witness W)) × SoundFor D (witness W) × meant.WitnessAccepted D W
-  unfolding tag decoded.When
-  opaque-meant c h = go (m .C) (m .words) (m .sound) (says-opaque _ _ _ _ _ (sym (m .reply) ∙ h))
+  not-refused : (c : List ℕ) (room : ℕ) (out : Out Certificate) → certificate (length (D .labels)) (length (D .creds)) c ≡ out → tag (judgeProposal meant.judge (codeDossier D) D c room out .verdict) < 2 → Meant c room
+  unfolding judgeProposal tag choose
+  not-refused c room (got C q) e h = go (leb (length (D .labels)) room) refl h
     where
-      m : Meant c
-      m = accepted-meant c (subst (λ (r : Reply). tag (r .verdict) < 2) (sym h) (omega arith))
+      go : (b : Bool) → leb (length (D .labels)) room ≡ b → tag (choose b (told c C (meant.judge D C)) (refused 18 paper.Dossier 0 0) .verdict) < 2 → Meant c room
+      go true l i =
+          let s = certificateSound (length (D .labels)) (length (D .creds)) c C q e in
+          record { C = C; words = s .0; sound = s .1; reply = read-first c room ∙ ap (λ (x : Out Certificate). judgeProposal meant.judge (codeDossier D) D c room x) e ∙ long-told c C q room (leb-true _ _ l) }
+      go false l i = absurd (omega arith)
+  not-refused c room (bad e p w) g h = absurd (omega arith)
+
+  accepted-meant : (c : List ℕ) (room : ℕ) → tag (judgeOf (codeDossier D) c room .verdict) < 2 → Meant c room
+  accepted-meant c room h = not-refused c room (certificate (length (D .labels)) (length (D .creds)) c) refl (subst (λ (r : Reply). tag (r .verdict) < 2) (read-first c room) h)
+
+  pub opaque-meant : (c : List ℕ) (room : ℕ) → SaysOpaque (codeDossier D) c room → (W : Policy) × (c ≡ codeCertificate (witness W)) × SoundFor D (witness W) × meant.WitnessAccepted D W
+  unfolding tag decoded.When
+  opaque-meant c room h = go (m .C) (m .words) (m .sound) (says-opaque _ _ _ _ _ (sym (m .reply) ∙ h))
+    where
+      m : Meant c room
+      m = accepted-meant c room (subst (λ (r : Reply). tag (r .verdict) < 2) (sym h) (omega arith))
 
       go : (C : Certificate) → c ≡ codeCertificate C → SoundFor D C → meant.judge D C ≡ meant.opaque → (W : Policy) × (c ≡ codeCertificate (witness W)) × SoundFor D (witness W) × meant.WitnessAccepted D W
       go (witness W) e s a = (W, e, s, a)
       go (proof ls) e s a = absurd (shown.demand2 D (proof ls) meant.opaque .0 a)
 
-  pub detectable-meant : (c : List ℕ) → SaysDetectable (codeDossier D) c → (ls : List Line) × (c ≡ codeCertificate (proof ls)) × SoundFor D (proof ls) × meant.ProofAccepted D ls
+  pub detectable-meant : (c : List ℕ) (room : ℕ) → SaysDetectable (codeDossier D) c room → (ls : List Line) × (c ≡ codeCertificate (proof ls)) × SoundFor D (proof ls) × meant.ProofAccepted D ls
   unfolding tag decoded.When
-  detectable-meant c h = go (m .C) (m .words) (m .sound) (says-detectable _ _ _ _ _ (sym (m .reply) ∙ h))
+  detectable-meant c room h = go (m .C) (m .words) (m .sound) (says-detectable _ _ _ _ _ (sym (m .reply) ∙ h))
     where
-      m : Meant c
-      m = accepted-meant c (subst (λ (r : Reply). tag (r .verdict) < 2) (sym h) (omega arith))
+      m : Meant c room
+      m = accepted-meant c room (subst (λ (r : Reply). tag (r .verdict) < 2) (sym h) (omega arith))
 
       go : (C : Certificate) → c ≡ codeCertificate C → SoundFor D C → meant.judge D C ≡ meant.detectable → (ls : List Line) × (c ≡ codeCertificate (proof ls)) × SoundFor D (proof ls) × meant.ProofAccepted D ls
       go (witness W) e s a = absurd (shown.demand2 D (witness W) meant.detectable .0 a)
       go (proof ls) e s a = (ls, e, s, a)
 
   -- and back
-  pub meant-opaque : (c : List ℕ) (C : Certificate) → c ≡ codeCertificate C → SoundFor D C → meant.judge D C ≡ meant.opaque → SaysOpaque (codeDossier D) c
-  unfolding replyAt
-  meant-opaque c C e s a = ap (judgeOf (codeDossier D)) e ∙ judged C s ∙ ap (told (codeCertificate C) C) a
+  told-meant : (c : List ℕ) (C : Certificate) → c ≡ codeCertificate C → SoundFor D C → (room : ℕ) → length (D .labels) ≤ room → {x : meant.Outcome} → meant.judge D C ≡ x → judgeOf (codeDossier D) c room ≡ told (codeCertificate C) C x
+  told-meant c C e s room l a = ap (λ (w : List ℕ). judgeOf (codeDossier D) w room) e ∙ judged C s room l ∙ ap (told (codeCertificate C) C) a
 
-  pub meant-detectable : (c : List ℕ) (C : Certificate) → c ≡ codeCertificate C → SoundFor D C → meant.judge D C ≡ meant.detectable → SaysDetectable (codeDossier D) c
+  pub meant-opaque : (c : List ℕ) (C : Certificate) → c ≡ codeCertificate C → SoundFor D C → (room : ℕ) → length (D .labels) ≤ room → meant.judge D C ≡ meant.opaque → SaysOpaque (codeDossier D) c room
   unfolding replyAt
-  meant-detectable c C e s a = ap (judgeOf (codeDossier D)) e ∙ judged C s ∙ ap (told (codeCertificate C) C) a
+  meant-opaque c C e s room l a = told-meant c C e s room l a
+
+  pub meant-detectable : (c : List ℕ) (C : Certificate) → c ≡ codeCertificate C → SoundFor D C → (room : ℕ) → length (D .labels) ≤ room → meant.judge D C ≡ meant.detectable → SaysDetectable (codeDossier D) c room
+  unfolding replyAt
+  meant-detectable c C e s room l a = told-meant c C e s room l a
 
   well-named : WellNamed D
   unfolding WellNamed
@@ -149,9 +165,9 @@ module _ (D : Dossier) (f : DossierForm D) where
 -- ---- the demands
 
 pub demand2 : Demand2
-demand2 D C f g = (
-  (λ h. shown.demand2 D C meant.opaque .0 (says-opaque _ _ _ _ _ (sym (judged D f C g) ∙ h)), λ w. meant-opaque D f _ C refl g (shown.demand2 D C meant.opaque .1 w)),
-  (λ h. shown.demand2 D C meant.detectable .0 (says-detectable _ _ _ _ _ (sym (judged D f C g) ∙ h)), λ w. meant-detectable D f _ C refl g (shown.demand2 D C meant.detectable .1 w)),
+demand2 D C f g room l = (
+  (λ h. shown.demand2 D C meant.opaque .0 (says-opaque _ _ _ _ _ (sym (judged D f C g room l) ∙ h)), λ w. meant-opaque D f _ C refl g room l (shown.demand2 D C meant.opaque .1 w)),
+  (λ h. shown.demand2 D C meant.detectable .0 (says-detectable _ _ _ _ _ (sym (judged D f C g room l) ∙ h)), λ w. meant-detectable D f _ C refl g room l (shown.demand2 D C meant.detectable .1 w)),
 )
 
 -- a certificate's soundness does not lose by more credentials, nor a witness's by fewer
@@ -168,10 +184,10 @@ module _ (D E : Dossier) (x : Extends D E) where
 pub demand3 : Demand3
 demand3 =
     record {
-      every = λ D f c h. let (ls, e, s, a) = detectable-meant D f c h in shown.demand3 .every D ls a;
-      proofStays = λ D E x f g c h. let (ls, e, s, a) = detectable-meant D f c h in meant-detectable E g c (proof ls) e (sound-more D E x (proof ls) s) (shown.demand3 .proofStays D E x (well-named D f) ls a);
-      noWitness = λ D E x f g c w h i. let (ls, e, s, a) = detectable-meant D f c h in let (W, e', s', b) = opaque-meant E g w i in shown.demand3 .noWitness D E x (well-named D f) ls a W b;
-      witnessStays = λ D E x f g q w i. let (W, e, s, b) = opaque-meant E g w i in meant-opaque D f w (witness W) e (sound-fewer D E x W s) (shown.demand3 .witnessStays D E x (well-named D f) q W b);
+      every = λ D f c m h. let (ls, e, s, a) = detectable-meant D f c m h in shown.demand3 .every D ls a;
+      proofStays = λ D E x f g c m n l h. let (ls, e, s, a) = detectable-meant D f c m h in meant-detectable E g c (proof ls) e (sound-more D E x (proof ls) s) n l (shown.demand3 .proofStays D E x (well-named D f) ls a);
+      noWitness = λ D E x f g c w m n h i. let (ls, e, s, a) = detectable-meant D f c m h in let (W, e', s', b) = opaque-meant E g w n i in shown.demand3 .noWitness D E x (well-named D f) ls a W b;
+      witnessStays = λ D E x f g q w m n l i. let (W, e, s, b) = opaque-meant E g w m i in meant-opaque D f w (witness W) e (sound-fewer D E x W s) n l (shown.demand3 .witnessStays D E x (well-named D f) q W b);
     }
 
 -- ---- the answers
@@ -185,3 +201,9 @@ unfolding wordTo
 answersMeant D j e h =
     let y = yes-tested D (policy D) e in
     rw (named-is (λ x. answer D (policy D) x) h) (bit-yes (answer D (policy D) e) .0, (λ i. y .1 (bit-yes (answer D (policy D) e) .1 .0 i), λ i. bit-yes (answer D (policy D) e) .1 .1 (y .0 i)))
+
+-- ---- the rounds
+
+pub roundsMeant : RoundsMeant
+unfolding roundIn Given
+roundsMeant D W f g e a = (enough .withWitness D W f g (e .creds) a .2, shown.firstRounds .holding (joined (D .creds) (meant.tried D W) (e .creds) []) a)

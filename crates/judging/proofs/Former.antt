@@ -2,7 +2,9 @@
 use mathlib.Core.Path.{_≡_, refl, sym, ap, _∙_}
 use mathlib.Core.List.{List}
 use Prim.Native.Nat.{ℕ}
+use lib.Dec.{leb}
 use lib.ListN.{length}
+use Rattle.meaning.specs.Tests.{choose}
 use Rattle.words.specs.Out.{Out, got, bad}
 use Rattle.meaning.specs.Papers.{Dossier, policy, Yes, Certificate}
 use Rattle.meaning.specs.Verdict as meant
@@ -11,17 +13,19 @@ use Rattle.meaning.proofs.Former.{trueAsBefore}
 use Rattle.promise.specs.Code.{codeDossier}
 use Rattle.promise.specs.Layout.{layoutOf, proposalOf}
 use Rattle.certificate.specs.Read.{certificate}
+use Rattle.reply.specs.Answer.{refused}
+use Rattle.reply.specs.declared.Paper.the-variants as paper
 use Rattle.verdict.specs.Told.{replyAt, sizeOf}
 use Rattle.judging.specs.Judge.{judgeProposal, judgeOf}
 use Rattle.judging.specs.Former.{formerOf, RepliesKept}
 use Rattle.judging.proofs.Demands.{read-by}
 
 -- with the dossier read: whatever was read from c
-proposal-kept : (d : List ℕ) (D : Dossier) → Yes D (policy D) (D .secret) → (c : List ℕ) (x : Out Certificate) → judgeProposal meant.judge d D c x ≡ judgeProposal formerJudge d D c x
+proposal-kept : (d : List ℕ) (D : Dossier) → Yes D (policy D) (D .secret) → (c : List ℕ) (room : ℕ) (x : Out Certificate) → judgeProposal meant.judge d D c room x ≡ judgeProposal formerJudge d D c room x
 unfolding judgeProposal
-proposal-kept d D y c (got C q) = ap (replyAt d (layoutOf D) c (sizeOf (proposalOf C))) (trueAsBefore D C y)
-proposal-kept d D y c (bad e p w) = refl
+proposal-kept d D y c room (got C q) = ap (λ (o : meant.Outcome). choose (leb (length (D .labels)) room) (replyAt d (layoutOf D) c (sizeOf (proposalOf C)) o) (refused 18 paper.Dossier 0 0)) (trueAsBefore D C y)
+proposal-kept d D y c room (bad e p w) = refl
 
 pub repliesKept : RepliesKept
 unfolding judgeOf formerOf
-repliesKept D f y c = read-by D f meant.judge c ∙ proposal-kept (codeDossier D) D y c (certificate (length (D .labels)) (length (D .creds)) c) ∙ sym (read-by D f formerJudge c)
+repliesKept D f y c room = read-by D f meant.judge c room ∙ proposal-kept (codeDossier D) D y c room (certificate (length (D .labels)) (length (D .creds)) c) ∙ sym (read-by D f formerJudge c room)

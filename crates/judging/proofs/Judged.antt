@@ -1,19 +1,19 @@
 -- From the code's findings to the replies of the two entries.
 use Prim.Native.Nat.{ℕ, zero, suc, _<_, _≤_}
-use mathlib.Core.Path.{_≡_, refl, sym, ap, ap₂, _∙_}
+use mathlib.Core.Path.{_≡_, refl, sym, ap, ap₂, _∙_, subst}
 use mathlib.Core.List.{List, [], _∷_, _++_}
 use mathlib.Core.Option.{Option}
 use native.Mathlib.Omega.{arith}
 use lib.ListN.{length, drop}
 use borrow.Author.Tests.{le-leb, lt-leb}
-use Rattle.words.specs.Out.{Out, bad}
+use Rattle.words.specs.Out.{Out, got, bad}
 use Rattle.meaning.specs.Tests.{at, named, choose}
 use Rattle.meaning.specs.Papers.{Dossier, Certificate, Entry, policy, answer}
 use Rattle.meaning.specs.Verdict as meant
 use Rattle.promise.specs.Code.{bit}
 use Rattle.promise.specs.Place.{filled, rows}
 use Rattle.promise.specs.Formula.{entry}
-use Rattle.promise.specs.Layout.{layoutOf, dossierAt, certificateAt}
+use Rattle.promise.specs.Layout.{layoutOf, proposalOf, dossierAt, certificateAt}
 use Rattle.promise.specs.declared.Layout.{Layout}
 use Rattle.promise.specs.declared.Proposal.{Proposal}
 use Rattle.promise.proofs.Place.{many-at}
@@ -24,8 +24,9 @@ use Rattle.reply.specs.declared.Paper.the-variants as paper
 use Rattle.reply.specs.declared.Reply.{Reply}
 use Rattle.evaluation.specs.Which.{policyAt}
 use Rattle.evaluation.specs.Answer.{answerOf, answerWord}
-use Rattle.verdict.specs.Told.{replyAt, sizeOf}
+use Rattle.verdict.specs.Told.{replyAt, roundsAt, Says, sizeOf}
 use Rattle.judging.specs.Judge.{judgeProposal, judgeRead, judgeOf, Sound, Offered}
+use Rattle.judging.specs.Rounds.{roundsProposal, roundsRead, roundsAfter}
 use Rattle.judging.specs.Answers.{wordTo, countOf, tableOf, answersOf, tableAfter}
 use Rattle.judging.specs.declared.Answered.{Answered}
 use Rattle.judging.specs.declared.Answered.the-variants.{Count, Refused}
@@ -33,34 +34,58 @@ use Rattle.judging.proofs.Sound.{sound-paper, offered-paper, atoms-are,
 
 -- ---- judge
 
-pub judge-refused : (d c : List ℕ) {e p w : ℕ} {r : Reply} → dossier d ≡ bad e p w → r ≡ refused e paper.Dossier p w → r ≡ judgeOf d c
-unfolding judgeOf judgeRead
-judge-refused d c h g = g ∙ ap (λ (x : Out Dossier). judgeRead meant.judge d x c) (sym h)
+-- r is the judge's reply, and u what the table then holds, which held t
+abbrev pub Replied : List ℕ → List ℕ → List ℕ → Reply → List ℕ → Type 0
+Replied d c t r u = (r ≡ judgeOf d c (length t)) × (u ≡ roundsAfter d c t)
 
-module _ (d c : List ℕ) (o : Layout) (s : Sound d o) where
-  D : Dossier
-  D = s .paper
+pub judge-refused : (d c t : List ℕ) {e p w : ℕ} {r : Reply} → dossier d ≡ bad e p w → r ≡ refused e paper.Dossier p w → Replied d c t r t
+unfolding judgeOf judgeRead roundsAfter roundsRead
+judge-refused d c t h g = (g ∙ ap (λ (x : Out Dossier). judgeRead meant.judge d x c (length t)) (sym h), ap (λ (x : Out Dossier). roundsRead x c t) (sym h))
 
-  asked : judgeOf d c ≡ judgeProposal meant.judge d D c (certificate (o .atoms) (o .ncreds) c)
-  unfolding judgeOf judgeRead D
-  asked =
-      ap (λ (x : Out Dossier). judgeRead meant.judge d x c) (s .isRead)
-      ∙ ap₂ (λ (n m : ℕ). judgeProposal meant.judge d (s .paper) c (certificate n m c)) (sym (atoms-are d o s)) (sym (creds-are d o s))
+-- with the dossier D read from d, and x from c: what the judge's entry gives
+abbrev pub ByProposal : List ℕ → Dossier → List ℕ → List ℕ → Out Certificate → Reply → List ℕ → Type 0
+ByProposal d D c t x r u = (r ≡ judgeProposal meant.judge d D c (length t) x) × (u ≡ roundsProposal D x t)
 
-  pub judge-unsound : {e p w : ℕ} {r : Reply} → certificate (o .atoms) (o .ncreds) c ≡ bad e p w → r ≡ refused e paper.Certificate p w → r ≡ judgeOf d c
-  unfolding judgeProposal
-  judge-unsound h g = g ∙ ap (λ (x : Out Certificate). judgeProposal meant.judge d D c x) (sym h) ∙ sym asked
+pub by-dossier : (d c t : List ℕ) (D : Dossier) (q : ℕ) → dossier d ≡ got D q → {r : Reply} {u : List ℕ} → ByProposal d D c t (certificate (length (D .labels)) (length (D .creds)) c) r u → Replied d c t r u
+unfolding judgeOf judgeRead roundsAfter roundsRead
+by-dossier d c t D q e h = (h .0 ∙ ap (λ (x : Out Dossier). judgeRead meant.judge d x c (length t)) (sym e), h .1 ∙ ap (λ (x : Out Dossier). roundsRead x c t) (sym e))
 
-  pub judge-meant : (x : Proposal) → Offered (o .atoms) (o .ncreds) c x → {r : Reply} → r ≡ replyAt d o c (sizeOf x) (meant.judge (dossierAt d o) (certificateAt (o .atoms) c x)) → r ≡ judgeOf d c
-  unfolding judgeProposal D
-  judge-meant x f {r} g =
-      g
-      ∙ ap (λ (y : Dossier). replyAt d o c (sizeOf x) (meant.judge y (certificateAt (o .atoms) c x))) (sound-paper d o s)
-      ∙ ap (λ (y : Certificate). replyAt d o c (sizeOf x) (meant.judge (s .paper) y)) (offered-paper (o .atoms) (o .ncreds) c x f)
-      ∙ ap (λ (y : Layout). replyAt d y c (sizeOf x) (meant.judge (s .paper) (f .paper))) (s .layout)
-      ∙ ap (λ (y : Proposal). replyAt d (layoutOf (s .paper)) c (sizeOf y) (meant.judge (s .paper) (f .paper))) (f .proposal)
-      ∙ ap (λ (y : Out Certificate). judgeProposal meant.judge d (s .paper) c y) (sym (f .isRead))
-      ∙ sym asked
+module _ (d : List ℕ) (D : Dossier) (c t : List ℕ) where
+  pub proposal-refused : {e p w : ℕ} {r : Reply} → r ≡ refused e paper.Certificate p w → ByProposal d D c t (bad e p w) r t
+  unfolding judgeProposal roundsProposal
+  proposal-refused g = (g, refl)
+
+  module _ (C : Certificate) (q : ℕ) where
+    pub proposal-short : length t < length (D .labels) → {r : Reply} → r ≡ refused 18 paper.Dossier 0 0 → ByProposal d D c t (got C q) r t
+    unfolding judgeProposal roundsProposal choose
+    proposal-short h g = rw (lt-leb _ _ h) (g, refl)
+
+    pub proposal-meant : length (D .labels) ≤ length t → {r : Reply} {u : List ℕ} → r ≡ replyAt d (layoutOf D) c (sizeOf (proposalOf C)) (meant.judge D C) → u ≡ roundsAt (length (D .labels)) D C (meant.judge D C) t → ByProposal d D c t (got C q) r u
+    unfolding judgeProposal roundsProposal choose
+    proposal-meant h g z = rw (le-leb _ _ h) (g, z)
+
+module _ (d c t : List ℕ) (o : Layout) (s : Sound d o) where
+  asked : {out : Out Certificate} → certificate (o .atoms) (o .ncreds) c ≡ out → {r : Reply} {u : List ℕ} → ByProposal d (s .paper) c t out r u → Replied d c t r u
+  asked {out} e {r} {u} h =
+      by-dossier d c t (s .paper) (s .end) (s .isRead)
+      (subst (λ (x : Out Certificate). ByProposal d (s .paper) c t x r u) (sym e ∙ ap₂ (λ (n m : ℕ). certificate n m c) (atoms-are d o s) (creds-are d o s)) h)
+
+  pub judge-unsound : {e p w : ℕ} {r : Reply} → certificate (o .atoms) (o .ncreds) c ≡ bad e p w → r ≡ refused e paper.Certificate p w → Replied d c t r t
+  judge-unsound h g = asked h (proposal-refused d (s .paper) c t g)
+
+  module _ (x : Proposal) (f : Offered (o .atoms) (o .ncreds) c x) where
+    pub judge-short : length t < o .atoms → {r : Reply} → r ≡ refused 18 paper.Dossier 0 0 → Replied d c t r t
+    judge-short h g = asked (f .isRead) (proposal-short d (s .paper) c t (f .paper) (f .end) (omega (arith, atoms-are d o s)) g)
+
+    pub judge-meant : o .atoms ≤ length t → {r : Reply} {u : List ℕ} → Says d o c (sizeOf x) (certificateAt (o .atoms) c x) (meant.judge (dossierAt d o) (certificateAt (o .atoms) c x)) t r u → Replied d c t r u
+    judge-meant h g =
+        let D = s .paper in
+        let C = f .paper in
+        let same : meant.judge (dossierAt d o) (certificateAt (o .atoms) c x) ≡ meant.judge D C = ap₂ meant.judge (sound-paper d o s) (offered-paper (o .atoms) (o .ncreds) c x f) in
+        asked (f .isRead)
+        (proposal-meant d D c t C (f .end) (omega (arith, atoms-are d o s))
+        (g .reply ∙ ap (replyAt d o c (sizeOf x)) same ∙ ap₂ (λ (y : Layout) (z : Proposal). replyAt d y c (sizeOf z) (meant.judge D C)) (s .layout) (f .proposal))
+        (g .table ∙ ap (λ (y : meant.Outcome). roundsAt (o .atoms) (dossierAt d o) (certificateAt (o .atoms) c x) y t) same ∙ ap₂ (λ (y : Dossier) (z : Certificate). roundsAt (o .atoms) y z (meant.judge D C) t) (sound-paper d o s) (offered-paper (o .atoms) (o .ncreds) c x f) ∙ ap (λ (n : ℕ). roundsAt n D C (meant.judge D C) t) (atoms-are d o s)))
 
 -- ---- answers
 

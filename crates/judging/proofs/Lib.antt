@@ -5,3 +5,4 @@ pub mod Demands
 pub mod Shows
 pub mod Table
 pub mod Former
+pub mod Lengths

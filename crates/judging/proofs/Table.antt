@@ -1,8 +1,8 @@
 -- Demand 1: `demand1`.
-use Prim.Native.Nat.{ℕ, _-_, _≤_}
+use Prim.Native.Nat.{ℕ, _-_, _<_, _≤_}
 use mathlib.Core.Path.{_≡_, refl, sym, ap, ap₂, _∙_, subst, subst₂}
-use mathlib.Core.List.{List}
-use mathlib.Core.Option.{some, Option·some-injective, Option·none-ne-some}
+use mathlib.Core.List.{List, []}
+use mathlib.Core.Option.{Option, some, Option·some-injective, Option·none-ne-some}
 use native.Mathlib.Omega.{arith}
 use lib.ListN.{length}
 use lib.Dec.{leb}
@@ -13,6 +13,7 @@ use Rattle.words.specs.Out.{Out, got, bad}
 use Rattle.meaning.specs.Papers as papers
 use Rattle.meaning.specs.Papers.{witness, proof}
 use Rattle.meaning.specs.Verdict as meant
+use Rattle.meaning.specs.Verdict.{about}
 use Rattle.meaning.specs.Demands.{When}
 use Rattle.meaning.proofs.Demands as shown
 use Rattle.meaning.proofs.Tests.{below-at}
@@ -26,7 +27,7 @@ use Rattle.promise.specs.Thing.{nextOf}
 use Rattle.dossier.specs.Read.{dossier}
 use Rattle.dossier.proofs.Promise.{dossierSound, dossierAccepted, dossierShows, dossierRows}
 use Rattle.certificate.specs.Read.{certificate}
-use Rattle.certificate.proofs.Promise.{certificateSound, certificateShows, certificateRows}
+use Rattle.certificate.proofs.Promise.{certificateSound, certificateAccepted, certificateShows, certificateRows}
 use Rattle.reply.specs.Answer.{numberOf, refused}
 use Rattle.reply.specs.Part.{partOf}
 use Rattle.reply.specs.Shown.{shownOf}
@@ -34,15 +35,15 @@ use Rattle.reply.specs.declared.Paper.{Paper}
 use Rattle.reply.specs.declared.Paper.the-variants.{Dossier, Certificate}
 use Rattle.reply.specs.declared.Reply.{Reply}
 use Rattle.reply.proofs.Part.{fits}
-use Rattle.verdict.specs.Told.{showing, replyAt, sizeOf}
-use Rattle.judging.specs.Judge.{judgeProposal, judgeRead, judgeOf}
+use Rattle.verdict.specs.Told.{showing, replyAt, numbered, roundsAt, sizeOf}
+use Rattle.judging.specs.Judge.{judgeOf}
+use Rattle.judging.specs.Rounds.{roundsAfter}
 use Rattle.judging.specs.Answers.{countOf, tableOf, answersOf, tableAfter}
-use Rattle.judging.specs.Table.{Both, Row, AnswersRow, partShown}
+use Rattle.judging.specs.Table.{Both, Long, Row, AnswersRow, partShown}
 use Rattle.judging.specs.Demands.{Demand1}
 use Rattle.judging.specs.declared.Answered.{Answered}
 use Rattle.judging.specs.declared.Answered.the-variants.{Refused}
-use Rattle.judging.proofs.Judged.{answers-refused}
-use Rattle.judging.proofs.Demands.{judged}
+use Rattle.judging.proofs.Judged.{Replied, ByProposal, judge-refused, by-dossier, proposal-refused, proposal-short, proposal-meant, answers-refused}
 use Rattle.judging.proofs.Shows.{Stands, entries, probe-stands, secret-stands, line-stands}
 
 -- ---- the rows of form
@@ -60,87 +61,123 @@ module _ (number : ℕ) (paper : Paper) where
   refused-at : {A : Type 0} (K : Kind A) (ws : List ℕ) (p there : ℕ) (code : List ℕ) → Stands K ws p there code → refused number paper p (K .next ws p - p) ≡ refused number paper there (length code)
   refused-at K ws p there code s = ap₂ (refused number paper) (s .place) (s .size)
 
--- a number that lies in the table
-of-number : {e k : ℕ} → some e ≡ some k → 1 ≤ e → e ≤ 17 → (1 ≤ k) × (k ≤ 17)
-of-number {e} {k} q a b = let z : e ≡ k = Option·some-injective e k q in (omega arith, omega arith)
+-- a number that lies in the table; 18 is for a table of fewer words than 64
+InTable : List ℕ → ℕ → Type 0
+InTable t k = (1 ≤ k) × (k ≤ 18) × (64 ≤ length t → k ≤ 17)
 
--- the judge's reply is r, and what is shown for it is us
-abbrev Gives : List ℕ → List ℕ → Reply → List ℕ → Type 0
-Gives d c r us = (r ≡ judgeOf d c) × (us ≡ shownOf d c r)
+of-number : (t : List ℕ) {e k : ℕ} → some e ≡ some k → 1 ≤ e → e ≤ 17 → InTable t k
+unfolding InTable
+of-number t {e} {k} q a b = let z : e ≡ k = Option·some-injective e k q in (omega arith, omega arith, λ _. omega arith)
+
+of-short : (t : List ℕ) {k : ℕ} → some 18 ≡ some k → length t < 64 → InTable t k
+unfolding InTable
+of-short t {k} q h = let z : 18 ≡ k = Option·some-injective 18 k q in (omega arith, omega arith, λ l. absurd (omega arith))
+
+-- the judge's reply is r, what is shown for it is us, and the table, which held t, then holds u
+abbrev Gives : List ℕ → List ℕ → List ℕ → Reply → List ℕ → List ℕ → Type 0
+Gives d c t r us u = (r ≡ judgeOf d c (length t)) × (us ≡ shownOf d c r) × (u ≡ roundsAfter d c t)
+
+gives-of : (d c t : List ℕ) {r : Reply} {us u : List ℕ} → Replied d c t r u → us ≡ shownOf d c r → Gives d c t r us u
+gives-of d c t h e = (h .0, e, h .1)
 
 -- the reply for an outcome, of the words of sound papers
 abbrev replyTo : papers.Dossier → papers.Certificate → meant.Outcome → Reply
 replyTo D C o = replyAt (codeDossier D) (layoutOf D) (codeCertificate C) (sizeOf (proposalOf C)) o
 
-module _ {d c : List ℕ} {D : papers.Dossier} {C : papers.Certificate} (b : Both d c D C) where
-  gives : (o : meant.Outcome) → When D C o → {r : Reply} {us : List ℕ} → replyTo D C o ≡ r → shownOf (codeDossier D) (codeCertificate C) r ≡ us → Gives d c r us
-  gives o w {r} {us} e h =
-      let j : judgeOf (codeDossier D) (codeCertificate C) ≡ r = judged D (b .form) C (b .sound) ∙ ap (replyTo D C) (shown.demand2 D C o .1 w) ∙ e in
-      subst₂ (λ (x y : List ℕ). Gives x y r us) (sym (b .dossierWords)) (sym (b .certificateWords)) (sym j, sym h)
+module _ {d c : List ℕ} {D : papers.Dossier} {C : papers.Certificate} (b : Both d c D C) (t : List ℕ) where
+  -- the dossier is read, then the certificate
+  by-both : {r : Reply} {u : List ℕ} → ((q : ℕ) → ByProposal d D c t (got C q) r u) → Replied d c t r u
+  by-both {r} {u} h =
+      by-dossier d c t D (length (codeDossier D)) (sound-read d D (b .dossierWords) (b .form))
+      (subst (λ (x : Out papers.Certificate). ByProposal d D c t x r u) (sym (ap (certificate (length (D .labels)) (length (D .creds))) (b .certificateWords) ∙ certificateAccepted (length (D .labels)) (length (D .creds)) C (b .sound))) (h _))
 
-module _ (d c : List ℕ) where
-  row-gives : (r : Reply) (us : List ℕ) → Row d c r us → Gives d c r us
-  unfolding judgeOf judgeRead judgeProposal shownOf replyAt showing nextOf layoutOf proposalOf
-  row-gives r us (Row.inDossier s) = (ap (λ (x : Out papers.Dossier). judgeRead meant.judge d x c) (sym (dossierRows d _ _ us s)), shown-part (row-shows s))
-  row-gives r us (Row.inCertificate D e f s) = (
-    ap (λ (x : Out papers.Certificate). judgeProposal meant.judge d D c x) (sym (certificateRows _ _ c _ _ us s)) ∙ ap (λ (x : Out papers.Dossier). judgeRead meant.judge d x c) (sym (sound-read d D e f)),
-    shown-part (certificate-shows s),
-  )
-  row-gives r us (Row.opaque D W b w) = gives b meant.opaque w refl (fits _ 0 0 (omega arith))
-  row-gives r us (Row.detectable D ls b w) = gives b meant.detectable w refl (fits _ 0 0 (omega arith))
-  row-gives r us (Row.probe D W k e b w h) = let s = probe-stands D (b .form) k e h in gives b (meant.probeDiffers k) w (refused-at 14 Dossier (entries D (b .form)) _ _ _ _ s) (s .shown)
-  row-gives r us (Row.secret D W b w) = let s = secret-stands D (b .form) in gives b meant.secretKept w (refused-at 15 Dossier (entries D (b .form)) _ _ _ _ s) (s .shown)
-  row-gives r us (Row.line D ls k l b w h) = let s = line-stands D ls (b .sound) k l h in gives b (meant.lineFails k) w (refused-at 16 Certificate line _ _ _ _ s) (s .shown)
-  row-gives r us (Row.last D ls l b w h) = let s = line-stands D ls (b .sound) (length ls - 1) l h in gives b meant.lastNotEmpty w (refused-at 17 Certificate line _ _ _ _ s) (s .shown)
+  shown-for : (r : Reply) {us : List ℕ} → shownOf (codeDossier D) (codeCertificate C) r ≡ us → us ≡ shownOf d c r
+  shown-for r h = sym h ∙ ap₂ (λ (x y : List ℕ). shownOf x y r) (sym (b .dossierWords)) (sym (b .certificateWords))
+
+  gives-short : length t < length (D .labels) → Gives d c t (refused 18 Dossier 0 0) [] t
+  unfolding shownOf
+  gives-short l = gives-of d c t (by-both (λ q. proposal-short d D c t C q l refl)) (sym (fits d 0 0 (omega arith)))
+
+  gives : Long D t → (o : meant.Outcome) → When D C o → {r : Reply} {us u : List ℕ} → replyTo D C o ≡ r → shownOf (codeDossier D) (codeCertificate C) r ≡ us → roundsAt (length (D .labels)) D C o t ≡ u → Gives d c t r us u
+  gives l o w {r} {us} {u} e h z =
+      let is = shown.demand2 D C o .1 w in
+      gives-of d c t
+      (by-both (λ q. proposal-meant d D c t C q l
+      (sym e ∙ ap₂ (λ (x y : List ℕ). replyAt x (layoutOf D) y (sizeOf (proposalOf C)) o) (sym (b .dossierWords)) (sym (b .certificateWords)) ∙ ap (replyAt d (layoutOf D) c (sizeOf (proposalOf C))) (sym is))
+      (sym z ∙ ap (λ (x : meant.Outcome). roundsAt (length (D .labels)) D C x t) (sym is))))
+      (shown-for r h)
+
+module _ (d c t : List ℕ) where
+  row-gives : (r : Reply) (us u : List ℕ) → Row d c t r us u → Gives d c t r us u
+  unfolding shownOf replyAt showing nextOf layoutOf proposalOf roundsAt numbered about
+  row-gives r us u (Row.inDossier s) = gives-of d c t (judge-refused d c t (dossierRows d _ _ us s) refl) (shown-part (row-shows s))
+  row-gives r us u (Row.inCertificate D e f s) =
+      gives-of d c t
+      (by-dossier d c t D _ (sound-read d D e f) (subst (λ (x : Out papers.Certificate). ByProposal d D c t x r t) (sym (certificateRows _ _ c _ _ us s)) (proposal-refused d D c t refl)))
+      (shown-part (certificate-shows s))
+  row-gives r us u (Row.short D C b l) = gives-short b t l
+  row-gives r us u (Row.opaque D W b l w) = gives b t l meant.opaque w refl (fits _ 0 0 (omega arith)) refl
+  row-gives r us u (Row.detectable D ls b l w) = gives b t l meant.detectable w refl (fits _ 0 0 (omega arith)) refl
+  row-gives r us u (Row.probe D W k e b l w h) =
+      let s = probe-stands D (b .form) k e h in
+      gives b t l (meant.probeDiffers k) w (refused-at 14 Dossier (entries D (b .form)) _ _ _ _ s) (s .shown) (ap (λ (x : Option papers.Entry). numbered (length (D .labels)) D W x t) h)
+  row-gives r us u (Row.secret D W b l w) = let s = secret-stands D (b .form) in gives b t l meant.secretKept w (refused-at 15 Dossier (entries D (b .form)) _ _ _ _ s) (s .shown) refl
+  row-gives r us u (Row.line D ls k x b l w h) = let s = line-stands D ls (b .sound) k x h in gives b t l (meant.lineFails k) w (refused-at 16 Certificate line _ _ _ _ s) (s .shown) refl
+  row-gives r us u (Row.last D ls x b l w h) = let s = line-stands D ls (b .sound) (length ls - 1) x h in gives b t l meant.lastNotEmpty w (refused-at 17 Certificate line _ _ _ _ s) (s .shown) refl
 
   -- ---- some row applies
 
   abbrev Applies : Type 0
-  Applies = (r : Reply) × ((us : List ℕ) × Row d c r us)
+  Applies = (r : Reply) × ((us : List ℕ) × ((u : List ℕ) × Row d c t r us u))
 
-  by-meaning : (D : papers.Dossier) (C : papers.Certificate) → Both d c D C → (o : meant.Outcome) → When D C o → Applies
+  by-meaning : (D : papers.Dossier) (C : papers.Certificate) → Both d c D C → Long D t → (o : meant.Outcome) → When D C o → Applies
   unfolding When PartsForm
-  by-meaning D (witness W) b meant.opaque w = (_, (_, Row.opaque D W b w))
-  by-meaning D (witness W) b (meant.probeDiffers k) w = let (e, h, n) = w .here in (_, (_, Row.probe D W k e b w h))
-  by-meaning D (witness W) b meant.secretKept w = (_, (_, Row.secret D W b w))
-  by-meaning D (witness W) b meant.detectable w = absurd w
-  by-meaning D (witness W) b (meant.lineFails k) w = absurd w
-  by-meaning D (witness W) b meant.lastNotEmpty w = absurd w
-  by-meaning D (proof ls) b meant.detectable w = (_, (_, Row.detectable D ls b w))
-  by-meaning D (proof ls) b (meant.lineFails k) w = let (l, h) = below-at ls k (w .here .0) in (_, (_, Row.line D ls k l b w h))
-  by-meaning D (proof ls) b meant.lastNotEmpty w = let (l, h) = below-at ls (length ls - 1) (omega (arith, b .sound .parts .least)) in (_, (_, Row.last D ls l b w h))
-  by-meaning D (proof ls) b meant.opaque w = absurd w
-  by-meaning D (proof ls) b (meant.probeDiffers k) w = absurd w
-  by-meaning D (proof ls) b meant.secretKept w = absurd w
+  by-meaning D (witness W) b l meant.opaque w = (_, (_, (_, Row.opaque D W b l w)))
+  by-meaning D (witness W) b l (meant.probeDiffers k) w = let (e, h, n) = w .here in (_, (_, (_, Row.probe D W k e b l w h)))
+  by-meaning D (witness W) b l meant.secretKept w = (_, (_, (_, Row.secret D W b l w)))
+  by-meaning D (witness W) b l meant.detectable w = absurd w
+  by-meaning D (witness W) b l (meant.lineFails k) w = absurd w
+  by-meaning D (witness W) b l meant.lastNotEmpty w = absurd w
+  by-meaning D (proof ls) b l meant.detectable w = (_, (_, (_, Row.detectable D ls b l w)))
+  by-meaning D (proof ls) b l (meant.lineFails k) w = let (x, h) = below-at ls k (w .here .0) in (_, (_, (_, Row.line D ls k x b l w h)))
+  by-meaning D (proof ls) b l meant.lastNotEmpty w = let (x, h) = below-at ls (length ls - 1) (omega (arith, b .sound .parts .least)) in (_, (_, (_, Row.last D ls x b l w h)))
+  by-meaning D (proof ls) b l meant.opaque w = absurd w
+  by-meaning D (proof ls) b l (meant.probeDiffers k) w = absurd w
+  by-meaning D (proof ls) b l meant.secretKept w = absurd w
+
+  by-length : (D : papers.Dossier) (C : papers.Certificate) → Both d c D C → (b : Bool) → leb (length (D .labels)) (length t) ≡ b → Applies
+  by-length D C b true q = by-meaning D C b (leb-true _ _ q) (meant.judge D C) (shown.demand2 D C (meant.judge D C) .0 refl)
+  by-length D C b false q = (_, (_, (_, Row.short D C b (leb-false _ _ q))))
 
   by-certificate : (D : papers.Dossier) (q : ℕ) → dossier d ≡ got D q → (out : Out papers.Certificate) → certificate (length (D .labels)) (length (D .creds)) c ≡ out → Applies
-  by-certificate D q h (got C t) e =
+  by-certificate D q h (got C m) e =
       let s = dossierSound d D q h in
-      let z = certificateSound (length (D .labels)) (length (D .creds)) c C t e in
-      by-meaning D C (record { dossierWords = s .0; certificateWords = z .0; form = s .1; sound = z .1 }) (meant.judge D C) (shown.demand2 D C (meant.judge D C) .0 refl)
-  by-certificate D q h (bad e p w) g = let (us, r, z) = certificateShows (length (D .labels)) (length (D .creds)) c e p w g in let s = dossierSound d D q h in (_, (us, Row.inCertificate D (s .0) (s .1) r))
+      let z = certificateSound (length (D .labels)) (length (D .creds)) c C m e in
+      by-length D C (record { dossierWords = s .0; certificateWords = z .0; form = s .1; sound = z .1 }) (leb (length (D .labels)) (length t)) refl
+  by-certificate D q h (bad e p w) g = let (us, r, z) = certificateShows (length (D .labels)) (length (D .creds)) c e p w g in let s = dossierSound d D q h in (_, (us, (_, Row.inCertificate D (s .0) (s .1) r)))
 
-  by-dossier : (out : Out papers.Dossier) → dossier d ≡ out → Applies
-  by-dossier (got D q) e = by-certificate D q e (certificate (length (D .labels)) (length (D .creds)) c) refl
-  by-dossier (bad e p w) g = let (us, s, z) = dossierShows d e p w g in (_, (us, Row.inDossier s))
+  by-words : (out : Out papers.Dossier) → dossier d ≡ out → Applies
+  by-words (got D q) e = by-certificate D q e (certificate (length (D .labels)) (length (D .creds)) c) refl
+  by-words (bad e p w) g = let (us, s, z) = dossierShows d e p w g in (_, (us, (_, Row.inDossier s)))
 
-  row : Row d c (judgeOf d c) (shownOf d c (judgeOf d c))
+  row : Row d c t (judgeOf d c (length t)) (shownOf d c (judgeOf d c (length t))) (roundsAfter d c t)
   row =
-      let (r, (us, s)) = by-dossier (dossier d) refl in
-      let g = row-gives r us s in
-      subst₂ (Row d c) (g .0) (g .1 ∙ ap (shownOf d c) (g .0)) s
+      let (r, (us, (u, s))) = by-words (dossier d) refl in
+      let g = row-gives r us u s in
+      subst (λ (v : List ℕ). Row d c t (judgeOf d c (length t)) (shownOf d c (judgeOf d c (length t))) v) (g .2) (subst₂ (λ (x : Reply) (y : List ℕ). Row d c t x y u) (g .0) (g .1 ∙ ap (shownOf d c) (g .0)) s)
 
   -- ---- its number is in the table
 
-  row-number : (r : Reply) (us : List ℕ) → Row d c r us → (k : ℕ) → numberOf (r .verdict) ≡ some k → (1 ≤ k) × (k ≤ 17)
-  row-number r us (Row.inDossier s) k e = let n = row-shows s in of-number e (n .least) (omega (arith, n .most))
-  row-number r us (Row.inCertificate D h f s) k e = let n = certificate-shows s in of-number e (n .least) (omega (arith, n .most))
-  row-number r us (Row.opaque D W b w) k e = absurd (Option·none-ne-some k e)
-  row-number r us (Row.detectable D ls b w) k e = absurd (Option·none-ne-some k e)
-  row-number r us (Row.probe D W j x b w h) k e = of-number e (omega arith) (omega arith)
-  row-number r us (Row.secret D W b w) k e = of-number e (omega arith) (omega arith)
-  row-number r us (Row.line D ls j l b w h) k e = of-number e (omega arith) (omega arith)
-  row-number r us (Row.last D ls l b w h) k e = of-number e (omega arith) (omega arith)
+  row-number : (r : Reply) (us u : List ℕ) → Row d c t r us u → (k : ℕ) → numberOf (r .verdict) ≡ some k → InTable t k
+  row-number r us u (Row.inDossier s) k e = let n = row-shows s in of-number t e (n .least) (omega (arith, n .most))
+  row-number r us u (Row.inCertificate D h f s) k e = let n = certificate-shows s in of-number t e (n .least) (omega (arith, n .most))
+  row-number r us u (Row.short D C b l) k e = of-short t e (omega (arith, b .form .labels .few))
+  row-number r us u (Row.opaque D W b l w) k e = absurd (Option·none-ne-some k e)
+  row-number r us u (Row.detectable D ls b l w) k e = absurd (Option·none-ne-some k e)
+  row-number r us u (Row.probe D W j x b l w h) k e = of-number t e (omega arith) (omega arith)
+  row-number r us u (Row.secret D W b l w) k e = of-number t e (omega arith) (omega arith)
+  row-number r us u (Row.line D ls j x b l w h) k e = of-number t e (omega arith) (omega arith)
+  row-number r us u (Row.last D ls x b l w h) k e = of-number t e (omega arith) (omega arith)
 
 -- ---- the answers entry
 
@@ -185,12 +222,17 @@ module _ (d t : List ℕ) where
   answers-number r us u (AnswersRow.short D e f l) k p w q = let z : _≡_ {A = ℕ} 18 k = cc in (omega arith, omega arith)
   answers-number r us u (AnswersRow.count D e f l) k p w q = absurd (let z : _≡_ {A = ℕ} 0 1 = cc in omega arith)
 
+numbers : (d c t : List ℕ) (k : ℕ) → numberOf (judgeOf d c (length t) .verdict) ≡ some k → (1 ≤ k) × (k ≤ 18) × (64 ≤ length t → k ≤ 17)
+unfolding InTable
+numbers d c t = row-number d c t (judgeOf d c (length t)) _ _ (row d c t)
+
 pub demand1 : Demand1
 demand1 =
     record {
       row = row;
       only = row-gives;
-      number = λ d c. row-number d c (judgeOf d c) _ (row d c);
+      number = λ d c t k e. let n = numbers d c t k e in (n .0, n .1);
+      enough = λ d c t k l e. numbers d c t k e .2 l;
       answersRow = answers-row;
       answersOnly = answers-give;
       answersNumber = λ d t. answers-number d t (answersOf d t) _ _ (answers-row d t);

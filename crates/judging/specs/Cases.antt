@@ -38,13 +38,13 @@ P =
     ∷ 8 ∷ 5 ∷ 2 ∷ 0 ∷ 0 ∷ 0
     ∷ []
 
--- A dossier with a certificate and the judge's reply; or with a lent table, the reply to it, and what the table then holds.
+-- A dossier with a certificate and the judge's reply, with a table of 64 words, as the program lends it; or with a lent table, the reply to it, and what the table then holds.
 pub data Case : Type 0 where
   judged : List ℕ → List ℕ → Reply → Case
   answered : List ℕ → List ℕ → Answered → List ℕ → Case
 
 unfoldable pub Holds : Case → Type 0
-Holds (judged d c reply) = judgeOf d c ≡ reply
+Holds (judged d c reply) = judgeOf d c 64 ≡ reply
 Holds (answered d t reply after) = (answersOf d t ≡ reply) × (tableAfter d t ≡ after)
 
 -- In (a) the lent table has a word more than T1 has probes. 01 names no certificate for (i) and (j): P.

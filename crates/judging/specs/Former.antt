@@ -10,10 +10,10 @@ use Rattle.dossier.specs.Read.{dossier}
 use Rattle.reply.specs.declared.Reply.{Reply}
 use Rattle.judging.specs.Judge.{judgeRead, judgeOf}
 
--- the reply before the request
-unfoldable pub formerOf : List ℕ → List ℕ → Reply
-formerOf d c = judgeRead formerJudge d (dossier d) c
+-- the reply before the request, with a table lent for so many words (A5, which came later)
+unfoldable pub formerOf : List ℕ → List ℕ → ℕ → Reply
+formerOf d c room = judgeRead formerJudge d (dossier d) c room
 
 -- "on a sound dossier whose secret is true in its policy every reply is what it was before"
 abbrev pub RepliesKept : Type 0
-RepliesKept = (D : Dossier) → DossierForm D → Yes D (policy D) (D .secret) → (c : List ℕ) → judgeOf (codeDossier D) c ≡ formerOf (codeDossier D) c
+RepliesKept = (D : Dossier) → DossierForm D → Yes D (policy D) (D .secret) → (c : List ℕ) (room : ℕ) → judgeOf (codeDossier D) c room ≡ formerOf (codeDossier D) c room

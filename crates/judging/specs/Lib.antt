@@ -1,4 +1,5 @@
 pub mod Judge
+pub mod Rounds
 pub mod Answers
 pub mod Cases
 pub mod Table

@@ -10,6 +10,7 @@ use Rattle.meaning.specs.Policy.{Policy}
 use Rattle.meaning.specs.Papers as papers
 use Rattle.meaning.specs.Papers.{Entry, Line, witness, proof}
 use Rattle.meaning.specs.Verdict as meant
+use Rattle.meaning.specs.Verdict.{roundIn}
 use Rattle.meaning.specs.Demands.{When}
 use Rattle.promise.specs.Code.{codeEntry, codeLine, codeDossier, codeCertificate}
 use Rattle.promise.specs.Form.{DossierForm, CertificateForm}
@@ -36,29 +37,37 @@ pub record Both (d c : List ℕ) (D : papers.Dossier) (C : papers.Certificate) :
   pub form : DossierForm D
   pub sound : SoundFor D C
 
--- The rows, for the words d and c: the reply, and the words that are shown. (18 is the answers entry's.)
--- "Order: the dossier's form from left to right; 10; the certificate's form from left to right; then meaning."
-pub data Row (d c : List ℕ) : Reply → List ℕ → Type 0 where
+-- the lent table is long enough: a word for each atom (request A5)
+abbrev pub Long : papers.Dossier → List ℕ → Type 0
+Long D t = length (D .labels) ≤ length t
+
+-- The rows, for the words d and c and the lent table t: the reply, the words that are shown, and what the table then holds.
+-- "Order: the dossier's form from left to right; 10; the certificate's form from left to right; then meaning." And A5: "18 .. after the certificate's form and before its
+-- meaning"; "Every other reply" than 14 and 15 "leaves the table untouched."
+pub data Row (d c t : List ℕ) : Reply → List ℕ → List ℕ → Type 0 where
   -- 1 to 9 in the dossier
-  inDossier : {e p : ℕ} {us : List ℕ} → DossierRow d e p us → Row d c (refused e Dossier p (length us)) us
+  inDossier : {e p : ℕ} {us : List ℕ} → DossierRow d e p us → Row d c t (refused e Dossier p (length us)) us t
   -- 1 to 6 and 9 to 13 in the certificate, with a sound dossier
   inCertificate : (D : papers.Dossier) {e p : ℕ} {us : List ℕ} → d ≡ codeDossier D → DossierForm D → CertificateRow (length (D .labels)) (length (D .creds)) c e p us
-      → Row d c (refused e Certificate p (length us)) us
+      → Row d c t (refused e Certificate p (length us)) us t
+  -- 18 (A5): "dossier, place 0, empty part", "for proofs and for witnesses that would be accepted too"
+  short : (D : papers.Dossier) (C : papers.Certificate) → Both d c D C → length t < length (D .labels) → Row d c t (refused 18 Dossier 0 0) [] t
   -- "For an acceptance: certificate, place 0, empty part."
-  opaque : (D : papers.Dossier) (W : Policy) → Both d c D (witness W) → When D (witness W) meant.opaque → Row d c (accepted Opaque) []
-  detectable : (D : papers.Dossier) (ls : List Line) → Both d c D (proof ls) → When D (proof ls) meant.detectable → Row d c (accepted Detectable) []
-  -- 14: "witness: a probe's answer differs": "that probe in the dossier", probe k, after the probes before it
-  probe : (D : papers.Dossier) (W : Policy) (k : ℕ) (e : Entry) → Both d c D (witness W) → When D (witness W) (meant.probeDiffers k) → at (D .probes) k ≡ some e
-      → Row d c (refused 14 Dossier (probesAt D + 1 + length (codeAll codeEntry (take k (D .probes)))) (length (codeEntry e))) (codeEntry e)
+  opaque : (D : papers.Dossier) (W : Policy) → Both d c D (witness W) → Long D t → When D (witness W) meant.opaque → Row d c t (accepted Opaque) [] t
+  detectable : (D : papers.Dossier) (ls : List Line) → Both d c D (proof ls) → Long D t → When D (proof ls) meant.detectable → Row d c t (accepted Detectable) [] t
+  -- 14: "witness: a probe's answer differs": "that probe in the dossier", probe k, after the probes before it. A5: "the words 0 to n - 1 of the lent table become these numbers,
+  -- for the witness with the visible clauses and that probe's or the secret's credentials; words beyond n stay."
+  probe : (D : papers.Dossier) (W : Policy) (k : ℕ) (e : Entry) → Both d c D (witness W) → Long D t → When D (witness W) (meant.probeDiffers k) → at (D .probes) k ≡ some e
+      → Row d c t (refused 14 Dossier (probesAt D + 1 + length (codeAll codeEntry (take k (D .probes)))) (length (codeEntry e))) (codeEntry e) (filled (roundIn D W e) (length (D .labels)) t)
   -- 15: "when the witness gives the secret the policy's value" (A2): "the secret in the dossier"
-  secret : (D : papers.Dossier) (W : Policy) → Both d c D (witness W) → When D (witness W) meant.secretKept
-      → Row d c (refused 15 Dossier (secretAt D + 1) (length (codeEntry (D .secret)))) (codeEntry (D .secret))
+  secret : (D : papers.Dossier) (W : Policy) → Both d c D (witness W) → Long D t → When D (witness W) meant.secretKept
+      → Row d c t (refused 15 Dossier (secretAt D + 1) (length (codeEntry (D .secret)))) (codeEntry (D .secret)) (filled (roundIn D W (D .secret)) (length (D .labels)) t)
   -- 16: "a line doesn't follow": "that line", line k, after the lines before it
-  line : (D : papers.Dossier) (ls : List Line) (k : ℕ) (l : Line) → Both d c D (proof ls) → When D (proof ls) (meant.lineFails k) → at ls k ≡ some l
-      → Row d c (refused 16 Certificate (2 + length (codeAll codeLine (take k ls))) (length (codeLine l))) (codeLine l)
+  line : (D : papers.Dossier) (ls : List Line) (k : ℕ) (l : Line) → Both d c D (proof ls) → Long D t → When D (proof ls) (meant.lineFails k) → at ls k ≡ some l
+      → Row d c t (refused 16 Certificate (2 + length (codeAll codeLine (take k ls))) (length (codeLine l))) (codeLine l) t
   -- 17: "the last line isn't empty": "that line"
-  last : (D : papers.Dossier) (ls : List Line) (l : Line) → Both d c D (proof ls) → When D (proof ls) meant.lastNotEmpty → at ls (length ls - 1) ≡ some l
-      → Row d c (refused 17 Certificate (2 + length (codeAll codeLine (take (length ls - 1) ls))) (length (codeLine l))) (codeLine l)
+  last : (D : papers.Dossier) (ls : List Line) (l : Line) → Both d c D (proof ls) → Long D t → When D (proof ls) meant.lastNotEmpty → at ls (length ls - 1) ≡ some l
+      → Row d c t (refused 17 Certificate (2 + length (codeAll codeLine (take (length ls - 1) ls))) (length (codeLine l))) (codeLine l) t
 
 -- The answers entry's rows, for the dossier's words d and the table t: the reply, the words of the dossier that are shown, and what the table then holds.
 pub data AnswersRow (d t : List ℕ) : Answered → List ℕ → List ℕ → Type 0 where

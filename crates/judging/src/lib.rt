@@ -2,13 +2,16 @@
 use certificate::Form as Proposed;
 use dossier::Form;
 use promise::Layout;
+use promise::Proposal;
 use promise::Thing;
 use reply::Paper;
 use reply::Reply;
 use reply::Verdict;
 ghost use mathlib.Core.Path.{_≡_};
+ghost use lib.ListN.{length};
 ghost use Rattle.reply.specs.Answer as said;
-ghost use Rattle.judging.specs.Judge.{judgeOf, Sound};
+ghost use Rattle.judging.specs.Judge.{judgeOf, Sound, Offered};
+ghost use Rattle.judging.specs.Rounds.{roundsAfter};
 ghost use Rattle.judging.specs.Answers.{answersOf, tableAfter};
 
 // What the answers entry replies: the count of answers, or the refusal: its number, its place in the dossier, and how many words it shows.
@@ -29,24 +32,37 @@ fn refused(number: u16, paper: Paper, place: usize, count: usize) -> Reply
     }
 }
 
-// With the dossier sound: the certificate's form, then meaning.
-fn judge_with(d: &[u16], o: Layout, c: &[u16]) -> Reply
+// With both papers sound: 18, then meaning.
+fn judge_papers(d: &[u16], o: Layout, c: &[u16], x: Proposal, rounds: &mut [u16]) -> Reply
+    requires { ⌜ Sound (now d) o × Offered (o .atoms) (o .ncreds) (now c) x ⌝ }
+    ensures { λ r. ⌜ (r ≡ judgeOf (now (d .entry)) (now (c .entry)) (length (now (rounds .entry)))) × (now (rounds .exit) ≡ roundsAfter (now (d .entry)) (now (c .entry)) (now (rounds .entry))) ⌝ }
+{
+    if rounds.len() < o.atoms {
+        return refused(18, Paper::Dossier, 0, 0);
+    }
+    verdict::judge_sound(d, o, c, x, rounds)
+}
+
+// With the dossier sound: the certificate's form, then 18 and meaning.
+fn judge_with(d: &[u16], o: Layout, c: &[u16], rounds: &mut [u16]) -> Reply
     requires { ⌜ Sound (now d) o ⌝ }
-    ensures { λ r. ⌜ r ≡ judgeOf (now (d .entry)) (now (c .entry)) ⌝ }
+    ensures { λ r. ⌜ (r ≡ judgeOf (now (d .entry)) (now (c .entry)) (length (now (rounds .entry)))) × (now (rounds .exit) ≡ roundsAfter (now (d .entry)) (now (c .entry)) (now (rounds .entry))) ⌝ }
 {
     match certificate::certificate(c, o.atoms, o.ncreds) {
         Proposed::Refused(e, p, w) => refused(e, Paper::Certificate, p, w),
-        Proposed::Sound(x) => verdict::judge_sound(d, o, c, x),
+        Proposed::Sound(x) => judge_papers(d, o, c, x, rounds),
     }
 }
 
-// The reply to a dossier and a certificate, whatever their words.
-pub fn judge(dossier: &[u16], certificate: &[u16]) -> Reply
-    ensures { λ r. ⌜ r ≡ judgeOf (now (dossier .entry)) (now (certificate .entry)) ⌝ }
+// The reply to a dossier and a certificate, whatever their words. On 14 and 15 the table gets, for each atom, the number of the round that
+// first adds it, 0 if none does, for the witness with the visible clauses and the credentials of that probe or of the secret; words beyond
+// stay. Every other reply leaves the table as it was.
+pub fn judge(dossier: &[u16], certificate: &[u16], rounds: &mut [u16]) -> Reply
+    ensures { λ r. ⌜ (r ≡ judgeOf (now (dossier .entry)) (now (certificate .entry)) (length (now (rounds .entry)))) × (now (rounds .exit) ≡ roundsAfter (now (dossier .entry)) (now (certificate .entry)) (now (rounds .entry))) ⌝ }
 {
     match dossier::dossier(dossier) {
         Form::Refused(e, p, w) => refused(e, Paper::Dossier, p, w),
-        Form::Sound(o) => judge_with(dossier, o, certificate),
+        Form::Sound(o) => judge_with(dossier, o, certificate, rounds),
     }
 }
 

@@ -1,32 +1,27 @@
 -- Laws of words as text, and how long the lines are.
 use Prim.Native.Nat.{ℕ, suc, _+_, _*_, _≤_, _<_}
-use mathlib.Core.Path.{_≡_, refl, sym, ap, _∙_}
+use mathlib.Core.Path.{_≡_, sym, ap, ap₂, _∙_}
 use mathlib.Core.List.{List, [], _∷_, _++_, append-assoc, append-nil}
 use native.Mathlib.Omega.{arith}
 use native.Mathlib.Decide.{decLt}
 use lib.ListN.{length, getD, take, length-append}
 use lib.Seq.{take-suc, take-length, length-take-le}
-use lib.Dec.{leb}
-use borrow.Author.Tests.{le-leb, lt-leb}
-use Rattle.words.specs.Out.{Out, got, bad}
-use Rattle.meaning.specs.Tests.{choose}
-use Rattle.meaning.specs.Papers as papers
-use Rattle.promise.specs.Place.{filled}
-use Rattle.promise.proofs.Place.{filled-length}
-use Rattle.dossier.specs.Read.{dossier}
 use Rattle.reply.specs.Part.{partOf}
 use Rattle.reply.proofs.Part.{counted, unfit}
 use Rattle.reply.specs.declared.Paper.{Paper}
 use Rattle.reply.specs.declared.Paper.the-variants.{Dossier, Certificate}
 use Rattle.reply.specs.Shown.{ofPaper, shownOf}
 use Rattle.reply.specs.declared.Reply.{Reply}
-use Rattle.judging.specs.Answers.{wordTo, tableOf, answersOf, tableAfter}
+use Rattle.judging.specs.Judge.{judgeOf}
+use Rattle.judging.specs.Rounds.{roundsAfter}
+use Rattle.judging.specs.Answers.{answersOf, tableAfter}
+use Rattle.judging.proofs.Lengths.{table-length, rounds-length}
 use Rattle.judging.specs.declared.Answered.{Answered}
 use Rattle.judging.specs.declared.Answered.the-variants.{Count, Refused}
-use Rattle.text.specs.Line.{digitsOf, decimal}
+use Rattle.text.specs.Line.{digitsOf, decimal, replyText}
 use Rattle.text.proofs.Value.{valueOf, digits-mean}
-use Rattle.text.proofs.Put.{digits-short, refusal-short, put-none, put-length, Placed, placed-more}
-use Rattle.printed.specs.Lists.{spaced, spacedAll, listOf, answersHead, answersLine, shownHead, shownLine}
+use Rattle.text.proofs.Put.{digits-short, refusal-short, reply-short, put-none, put-length, Placed, placed-more}
+use Rattle.printed.specs.Lists.{spaced, spacedAll, listOf, answersHead, answersLine, roundsLine, shownHead, shownLine}
 
 pub spaced-short : (w : ℕ) → length (spaced w) ≤ 6
 unfolding spaced
@@ -98,28 +93,27 @@ shown-few d c r = go (r .paper) (part-few d (r .place) (r .count)) (part-few c (
     go Dossier h k = omega arith
     go Certificate h k = omega arith
 
--- the two lines, of what was replied and of what was shown
+-- the lines, of what was replied and of what was shown
 pub answers-line-is : (d t : List ℕ) {r : Answered} {u : List ℕ} → r ≡ answersOf d t → u ≡ tableAfter d t → answersHead r ++ listOf u ≡ answersLine d t
 unfolding answersLine
-answers-line-is d t {r} {u} e f = ap (λ (x : Answered). answersHead x ++ listOf u) e ∙ ap (λ (x : List ℕ). answersHead (answersOf d t) ++ listOf x) f
+answers-line-is d t e f = ap₂ (λ (x : Answered) (y : List ℕ). answersHead x ++ listOf y) e f
+
+pub rounds-line-is : (d c t : List ℕ) {r : Reply} {u : List ℕ} → r ≡ judgeOf d c (length t) → u ≡ roundsAfter d c t → replyText r ++ listOf u ≡ roundsLine d c t
+unfolding roundsLine
+rounds-line-is d c t e f = ap₂ (λ (x : Reply) (y : List ℕ). replyText x ++ listOf y) e f
 
 pub shown-line-is : (d c : List ℕ) (r : Reply) {ws : List ℕ} → ws ≡ shownOf d c r → shownHead ws ++ listOf ws ≡ shownLine d c r
 unfolding shownLine
 shown-line-is d c r e = ap (λ (x : List ℕ). shownHead x ++ listOf x) e
 
--- how long they are: the answers entry leaves the table as long as it was
-table-length : (o : Out papers.Dossier) (t : List ℕ) → length (tableOf o t) ≡ length t
-unfolding tableOf choose
-table-length (bad e p w) t = refl
-table-length (got D q) t = go (decLt (length t) (length (D .probes)))
-  where
-    go : Dec (length t < length (D .probes)) → length (choose (leb (length (D .probes)) (length t)) (filled (wordTo D) (length (D .probes)) t) t) ≡ length t
-    go (yes h) = rw (lt-leb (length (D .probes)) (length t) h)
-    go (no h) = rw (le-leb (length (D .probes)) (length t) (omega arith)) (filled-length (wordTo D) (length (D .probes)) t (omega arith))
-
+-- how long they are
 pub answers-line-short : (d t : List ℕ) → length (answersLine d t) ≤ 96 + 6 * length t
-unfolding answersLine tableAfter
-answers-line-short d t = omega (arith, table-length (dossier d) t, length-append (answersHead (answersOf d t)) (listOf (tableAfter d t)), head-short (answersOf d t), list-short (tableAfter d t))
+unfolding answersLine
+answers-line-short d t = omega (arith, table-length d t, length-append (answersHead (answersOf d t)) (listOf (tableAfter d t)), head-short (answersOf d t), list-short (tableAfter d t))
+
+pub rounds-line-short : (d c t : List ℕ) → length (roundsLine d c t) ≤ 96 + 6 * length t
+unfolding roundsLine
+rounds-line-short d c t = omega (arith, rounds-length d c t, length-append (replyText (judgeOf d c (length t))) (listOf (roundsAfter d c t)), reply-short (judgeOf d c (length t)), list-short (roundsAfter d c t))
 
 pub shown-line-short : (d c : List ℕ) (r : Reply) → length (shownLine d c r) ≤ 96 + 6 * (length d + length c)
 unfolding shownLine

@@ -26,13 +26,13 @@ part-rows f n p k old e h =
 
 -- the line for papers, with the words in a table
 pub printed-papers : (bs old : List ℕ) (d c : ℕ) {r : Input} {t : List ℕ} → r ≡ inputOf bs → r ≡ Papers d c → t ≡ filled (wordAt bs) (min (length bs / 2) (length old)) old → length bs / 2 ≤ length old → d + c + 1 ≡ length bs / 2
-    → lineOf (judgeOf (part t 1 d) (part t (1 + d) c)) ≡ printed bs
+    → lineOf (judgeOf (part t 1 d) (part t (1 + d) c) 64) ≡ printed bs
 unfolding printed printedFor wordsOf
 printed-papers bs old d c {r} {t} e f g h l =
     let m : min (length bs / 2) (length old) ≡ length bs / 2 = omega arith in
     let g′ : t ≡ filled (wordAt bs) (length bs / 2) old = g ∙ ap (λ (n : ℕ). filled (wordAt bs) n old) m in
-    ap (λ (x : List ℕ). lineOf (judgeOf x (part t (1 + d) c))) (part-rows (wordAt bs) (length bs / 2) 1 d old g′ (omega arith))
-    ∙ ap (λ (x : List ℕ). lineOf (judgeOf (part (rows (wordAt bs) (length bs / 2)) 1 d) x)) (part-rows (wordAt bs) (length bs / 2) (1 + d) c old g′ (omega arith))
+    ap (λ (x : List ℕ). lineOf (judgeOf x (part t (1 + d) c) 64)) (part-rows (wordAt bs) (length bs / 2) 1 d old g′ (omega arith))
+    ∙ ap (λ (x : List ℕ). lineOf (judgeOf (part (rows (wordAt bs) (length bs / 2)) 1 d) x 64)) (part-rows (wordAt bs) (length bs / 2) (1 + d) c old g′ (omega arith))
     ∙ ap (printedFor (rows (wordAt bs) (length bs / 2))) (sym f ∙ e)
 
 pub printed-bad : (bs : List ℕ) {r : Input} → r ≡ inputOf bs → r ≡ Bad → inputLine ≡ printed bs
@@ -57,14 +57,14 @@ printed-short bs = go (wordsOf bs) (inputOf bs)
   where
     go : (ws : List ℕ) (i : Input) → length (printedFor ws i) ≤ 96
     go ws Bad = input-line-short
-    go ws (Papers d c) = line-short (judgeOf (part ws 1 d) (part ws (1 + d) c))
+    go ws (Papers d c) = line-short (judgeOf (part ws 1 d) (part ws (1 + d) c) 64)
 
 -- `&ws[p..p + k]` is the part of k words from p on
 pub cut-part : (ws : List ℕ) (p k : ℕ) → take (p + k - p) (drop p ws) ≡ part ws p k
 unfolding part
 cut-part ws p k = let e : p + k - p ≡ k = omega arith in rw e
 
-pub papers-cut : (ws : List ℕ) (p d c : ℕ) → lineOf (judgeOf (take (p + d - p) (drop p ws)) (take (p + d + c - (p + d)) (drop (p + d) ws))) ≡ lineOf (judgeOf (part ws p d) (part ws (p + d) c))
+pub papers-cut : (ws : List ℕ) (p d c : ℕ) → lineOf (judgeOf (take (p + d - p) (drop p ws)) (take (p + d + c - (p + d)) (drop (p + d) ws)) 64) ≡ lineOf (judgeOf (part ws p d) (part ws (p + d) c) 64)
 papers-cut ws p d c = rw (cut-part ws p d, cut-part ws (p + d) c)
 
 pub printed-count : (bs : List ℕ) {r : ℕ} → r ≡ length (printed bs) → r ≤ 96

@@ -1,4 +1,4 @@
--- What is printed of the answers entry and of `shown`: the reply's text, and then words in decimal.
+-- What is printed of the answers entry, of the judge with the table that it was lent, and of `shown`: the reply's text, and then words in decimal.
 -- A letter is its number in ASCII: 32 the space, 58 the colon, 10 the line feed.
 use Prim.Native.Nat.{ℕ}
 use mathlib.Core.List.{List, [], _∷_, _++_}
@@ -8,10 +8,12 @@ use Rattle.reply.specs.declared.Paper.{Paper}
 use Rattle.reply.specs.declared.Paper.the-variants.{Dossier}
 use Rattle.reply.specs.declared.Verdict.the-variants.{Opaque}
 use Rattle.reply.specs.declared.Reply.{Reply}
+use Rattle.judging.specs.Judge.{judgeOf}
+use Rattle.judging.specs.Rounds.{roundsAfter}
 use Rattle.judging.specs.Answers.{answersOf, tableAfter}
 use Rattle.judging.specs.declared.Answered.{Answered}
 use Rattle.judging.specs.declared.Answered.the-variants.{Count, Refused}
-use Rattle.text.specs.Line.{digitsOf, decimal, refusalOf}
+use Rattle.text.specs.Line.{digitsOf, decimal, refusalOf, replyText}
 
 -- a word after a space; a number below 65,536 has at most 5 digits
 unfoldable pub spaced : ℕ → List ℕ
@@ -33,6 +35,10 @@ answersHead (Refused number place count) = refusalOf number Dossier place count
 -- the line of the answers entry for the dossier d and the lent table t: the reply, and the table after it
 unfoldable pub answersLine : List ℕ → List ℕ → List ℕ
 answersLine d t = answersHead (answersOf d t) ++ listOf (tableAfter d t)
+
+-- "the judge's line, then ` :` and every word of the table" (A5), for the dossier d, the certificate c and the lent table t
+unfoldable pub roundsLine : List ℕ → List ℕ → List ℕ → List ℕ
+roundsLine d c t = replyText (judgeOf d c (length t)) ++ listOf (roundsAfter d c t)
 
 -- a reply that asks for so many words of a paper from a place on; `shown` does not read the verdict
 unfoldable pub asking : Paper → ℕ → ℕ → Reply

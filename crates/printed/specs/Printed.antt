@@ -13,10 +13,10 @@ use Rattle.text.specs.declared.Input.the-variants.{Bad, Papers}
 unfoldable pub wordsOf : List ℕ → List ℕ
 wordsOf bs = rows (wordAt bs) (length bs / 2)
 
--- the line: INPUT; or that of the judge's reply, with the dossier after the length word and the certificate after the dossier
+-- the line: INPUT; or that of the judge's reply, with the dossier after the length word and the certificate after the dossier. "The program lends 64 words" (request A5).
 unfoldable pub printedFor : List ℕ → Input → List ℕ
 printedFor ws Bad = inputLine
-printedFor ws (Papers d c) = lineOf (judgeOf (part ws 1 d) (part ws (1 + d) c))
+printedFor ws (Papers d c) = lineOf (judgeOf (part ws 1 d) (part ws (1 + d) c) 64)
 
 unfoldable pub printed : List ℕ → List ℕ
 printed bs = printedFor (wordsOf bs) (inputOf bs)

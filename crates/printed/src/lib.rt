@@ -10,25 +10,34 @@ ghost use Prim.Native.Nat.{_+_, _*_, _≤_};
 ghost use lib.ListN.{length};
 ghost use Rattle.promise.specs.Place.{part};
 ghost use Rattle.judging.specs.Judge.{judgeOf};
+ghost use Rattle.judging.specs.Rounds.{roundsAfter};
 ghost use Rattle.judging.specs.Answers.{tableAfter};
 ghost use Rattle.text.specs.Line.{put, decimal, lineOf};
 ghost use Rattle.printed.specs.Printed.{printed, tableRead};
-ghost use Rattle.printed.specs.Lists.{spaced, spacedAll, listOf, answersHead, answersLine, asking, shownLine};
+ghost use Rattle.printed.specs.Lists.{spaced, spacedAll, listOf, answersHead, answersLine, roundsLine, asking, shownLine};
+
+// A table for the judge, with room for every dossier's atoms.
+fn lent() -> [u16; 64]
+    ensures { λ r. ⌜ 64 ≡ length r ⌝ }
+{
+    [0; 64]
+}
 
 // The line of the judge's reply to the two papers. Answers how many bytes it has.
 pub fn papers_line(dossier: &[u16], certificate: &[u16], out: &mut [u8]) -> usize
     requires { ⌜ 96 ≤ length (now out) ⌝ }
-    ensures { λ r. ⌜ (now (out .exit) ≡ put (now (out .entry)) 0 (lineOf (judgeOf (now (dossier .entry)) (now (certificate .entry)))))
-        × (r ≡ length (lineOf (judgeOf (now (dossier .entry)) (now (certificate .entry))))) ⌝ }
+    ensures { λ r. ⌜ (now (out .exit) ≡ put (now (out .entry)) 0 (lineOf (judgeOf (now (dossier .entry)) (now (certificate .entry)) 64)))
+        × (r ≡ length (lineOf (judgeOf (now (dossier .entry)) (now (certificate .entry)) 64))) ⌝ }
 {
-    text::line(judging::judge(dossier, certificate), out)
+    let mut rounds = lent();
+    text::line(judging::judge(dossier, certificate, &mut rounds), out)
 }
 
 // The line of the judge's reply to papers that lie in the words from place `at` on: d words of the dossier, then c of the certificate. Answers how many bytes it has.
 pub fn papers_at(words: &[u16], at: usize, d: usize, c: usize, out: &mut [u8]) -> usize
     requires { ⌜ (at + d + c ≤ length (now words)) × (96 ≤ length (now out)) ⌝ }
-    ensures { λ r. ⌜ (now (out .exit) ≡ put (now (out .entry)) 0 (lineOf (judgeOf (part (now (words .entry)) at d) (part (now (words .entry)) (at + d) c))))
-        × (r ≡ length (lineOf (judgeOf (part (now (words .entry)) at d) (part (now (words .entry)) (at + d) c)))) ⌝ }
+    ensures { λ r. ⌜ (now (out .exit) ≡ put (now (out .entry)) 0 (lineOf (judgeOf (part (now (words .entry)) at d) (part (now (words .entry)) (at + d) c) 64)))
+        × (r ≡ length (lineOf (judgeOf (part (now (words .entry)) at d) (part (now (words .entry)) (at + d) c) 64))) ⌝ }
 {
     let from = at + d;
     let end = from + c;
@@ -118,6 +127,23 @@ pub fn answers_line(dossier: &[u16], table: &mut [u16], out: &mut [u8]) -> usize
     let reply = judging::answers(dossier, table);
     let p = answers_head(reply, out);
     list(table, out, p)
+}
+
+// The line of the judge's reply to the two papers, and then the whole of the table, which it was lent. Answers how many bytes the line has.
+pub fn rounds_line(
+    dossier: &[u16],
+    certificate: &[u16],
+    rounds: &mut [u16],
+    out: &mut [u8],
+) -> usize
+    requires { ⌜ 96 + 6 * length (now rounds) ≤ length (now out) ⌝ }
+    ensures { λ r. ⌜ (now (out .exit) ≡ put (now (out .entry)) 0 (roundsLine (now (dossier .entry)) (now (certificate .entry)) (now (rounds .entry))))
+        × (r ≡ length (roundsLine (now (dossier .entry)) (now (certificate .entry)) (now (rounds .entry))))
+        × (now (rounds .exit) ≡ roundsAfter (now (dossier .entry)) (now (certificate .entry)) (now (rounds .entry))) ⌝ }
+{
+    let reply = judging::judge(dossier, certificate, rounds);
+    let p = text::reply_text(reply, out);
+    list(rounds, out, p)
 }
 
 // The line of the words that a reply with this paper, place and count shows: how many, and the words. Answers how many bytes the line has.

@@ -1,9 +1,9 @@
 -- The theorem of specs/Builds.antt: `emptyBuilds`. Each build is told by a case of 01.
-use Prim.Native.Nat.{ℕ}
+use Prim.Native.Nat.{ℕ, zero, suc, _≤_}
 use mathlib.Core.Path.{_≡_, refl, sym, ap, ap₂, _∙_}
 use mathlib.Core.List.{List, [], _∷_, List·Memᴰ·head, List·Memᴰ·tail, List·Memᴰ·not-nil}
 use native.Mathlib.Omega.{arith}
-use lib.ListN.{length, getD}
+use lib.ListN.{length, getD, replicate}
 use Rattle.words.specs.Out.{got}
 use Rattle.meaning.specs.Policy.{Policy, fact}
 use Rattle.meaning.specs.Papers.{Entry, Dossier, visible, answer, Certificate, witness, proof}
@@ -21,6 +21,7 @@ use Rattle.reply.specs.declared.Reply.{Reply}
 use Rattle.reply.specs.declared.Verdict.{Verdict}
 use Rattle.reply.specs.declared.Verdict.the-variants.{Opaque, Detectable, Refused}
 use Rattle.judging.specs.Judge.{judgeOf}
+use Rattle.judging.specs.Rounds.{roundsAfter}
 use Rattle.judging.specs.Answers.{answersOf, tableAfter}
 use Rattle.judging.specs.Cases.{T1, T2, P, Holds}
 use Rattle.judging.specs.Table.{Both}
@@ -28,7 +29,7 @@ use Rattle.judging.specs.declared.Answered.{Answered}
 use Rattle.judging.specs.declared.Answered.the-variants as given
 use Rattle.judging.specs.declared.Answered.the-variants.{Count}
 use Rattle.judging.proofs.Cases.{compute, casesHold}
-use Rattle.slack.specs.Builds.{EarlierSave, Broken, BrokenAnswers, EmptyBuilds}
+use Rattle.slack.specs.Builds.{EarlierSave, Broken, BrokenRounds, BrokenAnswers, EmptyBuilds}
 
 -- ---- the cases
 
@@ -37,19 +38,19 @@ case-a : (answersOf T1 (7 ∷ 7 ∷ 7 ∷ []) ≡ Count 2) × (tableAfter T1 (7 
 unfolding Holds
 case-a = casesHold _ (List·Memᴰ·head refl)
 
-case-c : judgeOf T2 P ≡ refused 16 certificatePaper 10 7
+case-c : judgeOf T2 P 64 ≡ refused 16 certificatePaper 10 7
 unfolding Holds
 case-c = casesHold _ (List·Memᴰ·tail (List·Memᴰ·tail (List·Memᴰ·head refl)))
 
-case-d : judgeOf T2 (1 ∷ 1 ∷ 2 ∷ 0 ∷ []) ≡ accepted Opaque
+case-d : judgeOf T2 (1 ∷ 1 ∷ 2 ∷ 0 ∷ []) 64 ≡ accepted Opaque
 unfolding Holds
 case-d = casesHold _ (List·Memᴰ·tail (List·Memᴰ·tail (List·Memᴰ·tail (List·Memᴰ·head refl))))
 
-case-e : judgeOf T1 (1 ∷ 1 ∷ 2 ∷ 0 ∷ []) ≡ refused 14 dossierPaper 21 3
+case-e : judgeOf T1 (1 ∷ 1 ∷ 2 ∷ 0 ∷ []) 64 ≡ refused 14 dossierPaper 21 3
 unfolding Holds
 case-e = casesHold _ (List·Memᴰ·tail (List·Memᴰ·tail (List·Memᴰ·tail (List·Memᴰ·tail (List·Memᴰ·head refl)))))
 
-case-g : judgeOf T1 (1 ∷ 0 ∷ []) ≡ refused 14 dossierPaper 17 4
+case-g : judgeOf T1 (1 ∷ 0 ∷ []) 64 ≡ refused 14 dossierPaper 17 4
 unfolding Holds
 case-g = casesHold _ (List·Memᴰ·tail (List·Memᴰ·tail (List·Memᴰ·tail (List·Memᴰ·tail (List·Memᴰ·tail (List·Memᴰ·tail (List·Memᴰ·head refl)))))))
 
@@ -86,8 +87,12 @@ unfolding compute
 t2-p = decoded T2 P t2 (proof p) refl refl
 
 -- what a build says of the decoded papers' codes it says of their words
-said : (f : List ℕ → List ℕ → Reply) {d c : List ℕ} {D : Dossier} {C : Certificate} {r : Reply} → Both d c D C → f (codeDossier D) (codeCertificate C) ≡ r → f d c ≡ r
-said f w h = ap₂ f (w .dossierWords) (w .certificateWords) ∙ h
+said : (f : List ℕ → List ℕ → List ℕ → Reply) {d c t : List ℕ} {D : Dossier} {C : Certificate} {r : Reply} → Both d c D C → f (codeDossier D) (codeCertificate C) t ≡ r → f d c t ≡ r
+said f {t = t} w h = ap₂ (λ (x y : List ℕ). f x y t) (w .dossierWords) (w .certificateWords) ∙ h
+
+-- a table of 64 words
+lent : List ℕ
+lent = replicate 64 0
 
 -- ---- what the builds find in them
 
@@ -111,18 +116,38 @@ countIn : Answered → ℕ
 countIn (Count k) = k
 countIn (given.Refused e p w) = 0
 
-module _ (f : List ℕ → List ℕ → Reply) where
+module _ (f : List ℕ → List ℕ → List ℕ → Reply) where
   broken : Broken f
-  unfolding kindOf kind two compute
+  unfolding kindOf kind two lent compute
   broken =
       record {
-        refusesAll = λ keeps h. let (e, q, a, n, g) = h T2 (1 ∷ 1 ∷ 2 ∷ 0 ∷ []) in let z : _≡_ {A = ℕ} 2 0 = ap kindOf (sym g ∙ keeps _ _ ∙ case-d) in omega arith;
-        alwaysDetectable = λ keeps h. let z : _≡_ {A = ℕ} 1 0 = ap kindOf (sym (h T2 (1 ∷ 1 ∷ 2 ∷ 0 ∷ [])) ∙ keeps _ _ ∙ case-d) in omega arith;
-        notMeant = λ h m. notBoth t2 (m t2 (t2-two .form) [] (h _ _)) (witnessShows t2 two witness-example);
-        firstProbe = λ keeps h. let z : _≡_ {A = ℕ} 0 2 = ap kindOf (sym (said f t1-two (h t1 two (t1-two .form) (t1-two .sound) refl refl)) ∙ keeps _ _ ∙ case-e) in omega arith;
-        firstLine = λ keeps h. let z : _≡_ {A = ℕ} 1 2 = ap kindOf (sym (said f t2-p (h t2 p (t2-p .form) (t2-p .sound) refl refl)) ∙ keeps _ _ ∙ case-c) in omega arith;
-        earlierSave = λ keeps h. let z : _≡_ {A = ℕ} 0 2 = ap kindOf (sym (said f t1-none (h t1 [] (t1-none .form) (t1-none .sound) none-differs refl)) ∙ keeps _ _ ∙ case-g) in omega arith;
+        refusesAll = λ keeps h. let (e, q, a, n, g) = h T2 (1 ∷ 1 ∷ 2 ∷ 0 ∷ []) lent in let z : _≡_ {A = ℕ} 2 0 = ap kindOf (sym g ∙ keeps _ _ lent ∙ case-d) in omega arith;
+        alwaysDetectable = λ keeps h. let z : _≡_ {A = ℕ} 1 0 = ap kindOf (sym (h T2 (1 ∷ 1 ∷ 2 ∷ 0 ∷ []) lent) ∙ keeps _ _ lent ∙ case-d) in omega arith;
+        notMeant = λ h m. notBoth t2 (m t2 (t2-two .form) [] [] (h _ _ _)) (witnessShows t2 two witness-example);
+        firstProbe = λ keeps h. let z : _≡_ {A = ℕ} 0 2 = ap kindOf (sym (said f t1-two (h t1 two (t1-two .form) (t1-two .sound) refl refl lent (omega arith))) ∙ keeps _ _ lent ∙ case-e) in omega arith;
+        firstLine = λ keeps h. let z : _≡_ {A = ℕ} 1 2 = ap kindOf (sym (said f t2-p (h t2 p (t2-p .form) (t2-p .sound) refl refl lent (omega arith))) ∙ keeps _ _ lent ∙ case-c) in omega arith;
+        earlierSave = λ keeps h. let z : _≡_ {A = ℕ} 0 2 = ap kindOf (sym (said f t1-none (h t1 [] (t1-none .form) (t1-none .sound) none-differs refl lent (omega arith))) ∙ keeps _ _ lent ∙ case-g) in omega arith;
       }
+
+-- "T1 with a visible clause at work": the witness has the fact 1, and the visible clause 2 from 1
+at-work : roundsAfter T1 (1 ∷ 1 ∷ 1 ∷ 0 ∷ []) (1 ∷ 1 ∷ 1 ∷ []) ≡ (0 ∷ 1 ∷ 2 ∷ [])
+unfolding compute
+at-work = refl
+
+brokenRounds : (after : List ℕ → List ℕ → List ℕ → List ℕ) → BrokenRounds after
+brokenRounds after =
+    record {
+      untouched = λ keeps h. let z : _≡_ {A = ℕ} 1 0 = ap (λ (l : List ℕ). getD l 0 0) (sym (h T1 (1 ∷ 1 ∷ 1 ∷ 0 ∷ []) (1 ∷ 1 ∷ 1 ∷ [])) ∙ keeps _ _ _ ∙ at-work) in omega arith;
+      onlyWhether = λ keeps h.
+          let z : getD (after T1 (1 ∷ 1 ∷ 1 ∷ 0 ∷ []) (1 ∷ 1 ∷ 1 ∷ [])) 2 0 ≡ 2 = ap (λ (l : List ℕ). getD l 2 0) (keeps _ _ _ ∙ at-work) in
+          omega (arith, z, h T1 (1 ∷ 1 ∷ 1 ∷ 0 ∷ []) (1 ∷ 1 ∷ 1 ∷ []) ones 2);
+    }
+  where
+    ones : (a : ℕ) → getD (1 ∷ 1 ∷ 1 ∷ []) a 0 ≤ 1
+    ones zero = omega arith
+    ones (suc zero) = omega arith
+    ones (suc (suc zero)) = omega arith
+    ones (suc (suc (suc a))) = omega arith
 
 module _ (f : List ℕ → List ℕ → Answered) (after : List ℕ → List ℕ → List ℕ) where
   brokenAnswers : BrokenAnswers f after
@@ -137,4 +162,4 @@ module _ (f : List ℕ → List ℕ → Answered) (after : List ℕ → List ℕ
       }
 
 pub emptyBuilds : EmptyBuilds
-emptyBuilds = record { judge = broken; answers = brokenAnswers }
+emptyBuilds = record { judge = broken; rounds = brokenRounds; answers = brokenAnswers }

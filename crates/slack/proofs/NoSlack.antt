@@ -9,12 +9,15 @@ one e f = e ∙ sym f
 pub noSlack : NoSlack
 noSlack =
     record {
-      judge = λ κs a x y e f p q. one p q;
+      judge = λ κs a x y e f p q. one (p .0) (q .0);
+      judgeTable = λ κs a x y e f p q. one (p .1) (q .1);
       answers = λ κs a x y e f p q. one (p .0) (q .0);
       answersTable = λ κs a x y e f p q. one (p .1) (q .1);
-      judgeSound = λ κs a x y e f p q. one p q;
+      judgeSound = λ κs a x y e f p q. one (p .reply) (q .reply);
+      judgeSoundTable = λ κs a x y e f p q. one (p .table) (q .table);
       lineFollows = λ κs a x y e f p q. one p q;
       answerAt = λ κs a x y e f p q. one p q;
+      roundsTable = λ κs a x y e f p q. one p q;
       wordOf = λ κs a x y e f p q. one p q;
       answeredTable = λ κs a x y e f p q. one p q;
       certificate = λ κs a x y e f p q. one p q;
@@ -40,6 +43,8 @@ noSlack =
       shownPlace = λ κs a x y e f p q. one (p .1) (q .1);
       split = λ κs a x y e f p q. one p q;
       wordsTable = λ κs a x y e f p q. one p q;
+      replyText = λ κs a x y e f p q. one (p .1) (q .1);
+      replyTextTable = λ κs a x y e f p q. one (p .0) (q .0);
       line = λ κs a x y e f p q. one (p .1) (q .1);
       lineTable = λ κs a x y e f p q. one (p .0) (q .0);
       inputLine = λ κs a x y e f p q. one (p .1) (q .1);
@@ -61,6 +66,9 @@ noSlack =
       answersLine = λ κs a x y e f p q. one (p .1) (q .1);
       answersLineTable = λ κs a x y e f p q. one (p .0) (q .0);
       answersLineAnswers = λ κs a x y e f p q. one (p .2) (q .2);
+      roundsLine = λ κs a x y e f p q. one (p .1) (q .1);
+      roundsLineTable = λ κs a x y e f p q. one (p .0) (q .0);
+      roundsLineRounds = λ κs a x y e f p q. one (p .2) (q .2);
       shownLine = λ κs a x y e f p q. one (p .1) (q .1);
       shownLineTable = λ κs a x y e f p q. one (p .0) (q .0);
     }

@@ -9,6 +9,7 @@ use Rattle.judging.proofs.answers.Reads as judging-answers
 use Rattle.verdict.proofs.judge_sound.Reads as verdict-judge-sound
 use Rattle.lines.proofs.line_follows.Reads as lines-line-follows
 use Rattle.evaluation.proofs.answer_at.Reads as evaluation-answer-at
+use Rattle.evaluation.proofs.rounds_at.Reads as evaluation-rounds-at
 use Rattle.evaluation.proofs.word_of.Reads as evaluation-word-of
 use Rattle.evaluation.proofs.answers.Reads as evaluation-answers
 use Rattle.certificate.proofs.certificate.Reads as certificate-certificate
@@ -33,6 +34,7 @@ use Rattle.words.proofs.list_at.Reads as words-list-at
 use Rattle.reply.proofs.shown.Reads as reply-shown
 use Rattle.text.proofs.split.Reads as text-split
 use Rattle.text.proofs.words.Reads as text-words
+use Rattle.text.proofs.reply_text.Reads as text-reply-text
 use Rattle.text.proofs.line.Reads as text-line
 use Rattle.text.proofs.input_line.Reads as text-input-line
 use Rattle.text.proofs.word_at.Reads as text-word-at
@@ -43,6 +45,7 @@ use Rattle.printed.proofs.papers_line.Reads as printed-papers-line
 use Rattle.printed.proofs.papers_at.Reads as printed-papers-at
 use Rattle.printed.proofs.stdin_line.Reads as printed-stdin-line
 use Rattle.printed.proofs.answers_line.Reads as printed-answers-line
+use Rattle.printed.proofs.rounds_line.Reads as printed-rounds-line
 use Rattle.printed.proofs.shown_line.Reads as printed-shown-line
 
 -- two answers to the same arguments that the promise allows are one
@@ -60,13 +63,16 @@ OneTable {K} {A} {X} {E} table Post = (κs : K) (a : A) (x y : X) (e f : E) → 
 pub record NoSlack : Type 0 where
   -- judging
   pub judge : OneReply judging-judge.Post
+  pub judgeTable : OneTable (λ e. e .1 .1 .0) judging-judge.Post
   pub answers : OneReply judging-answers.Post
   pub answersTable : OneTable (λ e. e .1 .0) judging-answers.Post
   -- verdict, lines
   pub judgeSound : OneReply verdict-judge-sound.Post
+  pub judgeSoundTable : OneTable (λ e. e .1 .1 .1 .1 .0) verdict-judge-sound.Post
   pub lineFollows : OneReply lines-line-follows.Post
   -- evaluation
   pub answerAt : OneReply evaluation-answer-at.Post
+  pub roundsTable : OneTable (λ e. e .1 .1 .1 .1 .1 .1 .0) evaluation-rounds-at.Post
   pub wordOf : OneReply evaluation-word-of.Post
   pub answeredTable : OneTable (λ e. e .1 .1 .1 .1 .1 .0) evaluation-answers.Post
   -- certificate, dossier
@@ -97,6 +103,8 @@ pub record NoSlack : Type 0 where
   -- text
   pub split : OneReply text-split.Post
   pub wordsTable : OneTable (λ e. e .1 .0) text-words.Post
+  pub replyText : OneReply text-reply-text.Post
+  pub replyTextTable : OneTable (λ e. e .1 .0) text-reply-text.Post
   pub line : OneReply text-line.Post
   pub lineTable : OneTable (λ e. e .1 .0) text-line.Post
   pub inputLine : OneReply text-input-line.Post
@@ -119,5 +127,8 @@ pub record NoSlack : Type 0 where
   pub answersLine : OneReply printed-answers-line.Post
   pub answersLineTable : OneTable (λ e. e .1 .1 .0) printed-answers-line.Post
   pub answersLineAnswers : OneTable (λ e. e .1 .0) printed-answers-line.Post
+  pub roundsLine : OneReply printed-rounds-line.Post
+  pub roundsLineTable : OneTable (λ e. e .1 .1 .1 .0) printed-rounds-line.Post
+  pub roundsLineRounds : OneTable (λ e. e .1 .1 .0) printed-rounds-line.Post
   pub shownLine : OneReply printed-shown-line.Post
   pub shownLineTable : OneTable (λ e. e .1 .1 .1 .1 .1 .0) printed-shown-line.Post

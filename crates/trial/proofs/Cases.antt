@@ -10,11 +10,11 @@ use borrow.Author.Tests.{le-leb, lt-leb, eq-eqb, ne-eqb}
 use Rattle.reply.specs.declared.Paper.{Paper}
 use Rattle.reply.specs.declared.Paper.the-variants.{Dossier, Certificate}
 use Rattle.text.specs.Bytes.{wordAt}
-use Rattle.trial.specs.Case.{headerOf, sizesAt, judgeCase, answersCase, paperCase, shownCase, bytesCase, caseOf, sizeOf, Fits}
+use Rattle.trial.specs.Case.{headerOf, sizesAt, judgeCase, answersCase, paperCase, shownCase, bytesCase, tableCase, roundsCase, caseOf, sizeOf, Fits}
 use Rattle.trial.specs.declared.Sizes.{Sizes}
 use Rattle.trial.specs.declared.Sizes.the-variants.{Over, Both}
 use Rattle.trial.specs.declared.Case.{Case}
-use Rattle.trial.specs.declared.Case.the-variants.{Bad, Judge, Answers, Shown, Bytes}
+use Rattle.trial.specs.declared.Case.the-variants.{Bad, Judge, Answers, Shown, Bytes, Rounds}
 
 -- ---- the numbers
 
@@ -23,17 +23,22 @@ module _ (kind : ℕ) where
   unfolding headerOf
   header-five e = rw (eq-eqb kind 3 e)
 
-  pub header-two : (kind ≡ 3 → ⊥) → 4 ≡ headerOf kind
+  pub header-four : (kind ≡ 3 → ⊥) → kind ≡ 5 → 8 ≡ headerOf kind
   unfolding headerOf
-  header-two n = rw (ne-eqb kind 3 n)
+  header-four n e = rw (ne-eqb kind 3 n, eq-eqb kind 5 e)
+
+  pub header-two : (kind ≡ 3 → ⊥) → (kind ≡ 5 → ⊥) → 4 ≡ headerOf kind
+  unfolding headerOf
+  header-two n m = rw (ne-eqb kind 3 n, ne-eqb kind 5 m)
 
 pub header-few : (kind : ℕ) → headerOf kind ≤ 10
 unfolding headerOf
-header-few kind = go (eqb kind 3)
+header-few kind = go (eqb kind 3) (eqb kind 5)
   where
-    go : (b : Bool) → cond b 10 4 ≤ 10
-    go true = omega arith
-    go false = omega arith
+    go : (b d : Bool) → cond b 10 (cond d 8 4) ≤ 10
+    go true d = omega arith
+    go false true = omega arith
+    go false false = omega arith
 
 module _ (h : List ℕ) (i : ℕ) {a b : ℕ} (first : a ≡ wordAt h i) (second : b ≡ wordAt h (i + 1)) where
   pub sizes-both : a + b ≤ 32767 → Both a b ≡ sizesAt h i
@@ -66,6 +71,15 @@ module _ (h : List ℕ) {p : ℕ} (is : p ≡ wordAt h 0) where
   unfolding shownCase
   shown-neither n m = rw (sym is, ne-eqb p 0 n, ne-eqb p 1 m)
 
+module _ (h : List ℕ) {t : ℕ} (is : t ≡ wordAt h 1) where
+  pub rounds-few : {fill : ℕ} {s : Sizes} → fill ≡ wordAt h 0 → s ≡ sizesAt h 2 → t ≤ 32767 → tableCase fill t s ≡ roundsCase h
+  unfolding roundsCase
+  rounds-few f g l = rw (sym f, sym is, sym g, le-leb t 32767 l)
+
+  pub rounds-over : 32767 < t → Bad ≡ roundsCase h
+  unfolding roundsCase
+  rounds-over l = rw (sym is, lt-leb t 32767 l)
+
 -- ---- the kind
 
 module _ (kind : ℕ) (h : List ℕ) where
@@ -85,9 +99,13 @@ module _ (kind : ℕ) (h : List ℕ) where
   unfolding caseOf
   kind-four e = rw (ne-eqb kind 1 (omega arith), ne-eqb kind 2 (omega arith), ne-eqb kind 3 (omega arith), eq-eqb kind 4 e)
 
-  pub kind-none : (kind ≡ 1 → ⊥) → (kind ≡ 2 → ⊥) → (kind ≡ 3 → ⊥) → (kind ≡ 4 → ⊥) → Bad ≡ caseOf kind h
+  pub kind-five : kind ≡ 5 → roundsCase h ≡ caseOf kind h
   unfolding caseOf
-  kind-none a b c d = rw (ne-eqb kind 1 a, ne-eqb kind 2 b, ne-eqb kind 3 c, ne-eqb kind 4 d)
+  kind-five e = rw (ne-eqb kind 1 (omega arith), ne-eqb kind 2 (omega arith), ne-eqb kind 3 (omega arith), ne-eqb kind 4 (omega arith), eq-eqb kind 5 e)
+
+  pub kind-none : (kind ≡ 1 → ⊥) → (kind ≡ 2 → ⊥) → (kind ≡ 3 → ⊥) → (kind ≡ 4 → ⊥) → (kind ≡ 5 → ⊥) → Bad ≡ caseOf kind h
+  unfolding caseOf
+  kind-none a b c d e = rw (ne-eqb kind 1 a, ne-eqb kind 2 b, ne-eqb kind 3 c, ne-eqb kind 4 d, ne-eqb kind 5 e)
 
 -- ---- the limits
 
@@ -129,11 +147,24 @@ shown-fits h =
     let f = sized-fit (sizesAt h 3) (sizes-within h 3) .2 in
     either (eqb (wordAt h 0) 0) _ _ (f Dossier (wordAt h 1) (wordAt h 2)) (either (eqb (wordAt h 0) 1) _ _ (f Certificate (wordAt h 1) (wordAt h 2)) bad-fits)
 
+table-fit : (fill t : ℕ) → t ≤ 32767 → (s : Sizes) → Within s → Fits (tableCase fill t s)
+unfolding Fits
+table-fit fill t l Over w = tt
+table-fit fill t l (Both d c) w = (l, w)
+
+rounds-fit : (h : List ℕ) → Fits (roundsCase h)
+unfolding Fits
+rounds-fit h = go (decLt 32767 (wordAt h 1))
+  where
+    go : Dec (32767 < wordAt h 1) → Fits (roundsCase h)
+    go (yes l) = subst Fits (rounds-over h refl l) tt
+    go (no l) = subst Fits (rounds-few h refl refl refl (omega arith)) (table-fit (wordAt h 0) (wordAt h 1) (omega arith) (sizesAt h 2) (sizes-within h 2))
+
 pub case-fits : (kind : ℕ) (h : List ℕ) {k : Case} → k ≡ caseOf kind h → Fits k
 unfolding caseOf
 case-fits kind h e =
     let f = sized-fit (sizesAt h 0) (sizes-within h 0) in
-    subst Fits (sym e) (either (eqb kind 1) _ _ (f .0) (either (eqb kind 2) _ _ (f .1) (either (eqb kind 3) _ _ (shown-fits h) (either (eqb kind 4) _ _ (bytes-fit h) bad-fits))))
+    subst Fits (sym e) (either (eqb kind 1) _ _ (f .0) (either (eqb kind 2) _ _ (f .1) (either (eqb kind 3) _ _ (shown-fits h) (either (eqb kind 4) _ _ (bytes-fit h) (either (eqb kind 5) _ _ (rounds-fit h) bad-fits)))))
 
 -- what a case is: its limit, and how many bytes follow
 module _ {k : Case} (f : Fits k) where
@@ -153,6 +184,10 @@ module _ {k : Case} (f : Fits k) where
   unfolding Fits sizeOf
   bytes-is e = (subst Fits e f, ap sizeOf e)
 
+  pub rounds-is : {x t d c : ℕ} → k ≡ Rounds x t d c → (t ≤ 32767) × (d + c ≤ 32767) × (sizeOf k ≡ 2 * (d + c))
+  unfolding Fits sizeOf
+  rounds-is e = let g = subst Fits e f in (g .0, g .1, ap sizeOf e)
+
 -- no case has more bytes than 70,000
 pub size-few : (k : Case) → Fits k → sizeOf k ≤ 70000
 unfolding Fits sizeOf
@@ -161,3 +196,4 @@ size-few (Judge d c) f = omega arith
 size-few (Answers t d) f = omega arith
 size-few (Shown p place count d c) f = omega arith
 size-few (Bytes n) f = omega arith
+size-few (Rounds x t d c) f = omega (arith, f .1)

@@ -9,11 +9,11 @@ use Rattle.text.specs.Bytes.{wordAt}
 use Rattle.trial.specs.declared.Sizes.{Sizes}
 use Rattle.trial.specs.declared.Sizes.the-variants.{Over, Both}
 use Rattle.trial.specs.declared.Case.{Case}
-use Rattle.trial.specs.declared.Case.the-variants.{Bad, Judge, Answers, Shown, Bytes}
+use Rattle.trial.specs.declared.Case.the-variants.{Bad, Judge, Answers, Shown, Bytes, Rounds}
 
--- how many bytes the numbers between a kind and the papers have: five words for kind 3, else two
+-- how many bytes the numbers between a kind and the papers have: five words for kind 3, four for kind 5, else two
 unfoldable pub headerOf : ℕ → ℕ
-headerOf kind = cond (eqb kind 3) 10 4
+headerOf kind = cond (eqb kind 3) 10 (cond (eqb kind 5) 8 4)
 
 -- words i and i + 1 of the numbers: at most 32,767 words for the two papers together, what the program judge takes after its length word; the same for table and dossier
 unfoldable pub sizesAt : List ℕ → ℕ → Sizes
@@ -43,10 +43,18 @@ shownCase h =
 unfoldable pub bytesCase : List ℕ → Case
 bytesCase h = cond (leb (wordAt h 0 + 65536 * wordAt h 1) 70000) (Bytes (wordAt h 0 + 65536 * wordAt h 1)) Bad
 
+-- kind 5 (request A5): fill, table length (at most 32,767), dossier length, certificate length
+abbrev pub tableCase : ℕ → ℕ → Sizes → Case
+tableCase fill t Over = Bad
+tableCase fill t (Both d c) = Rounds fill t d c
+
+unfoldable pub roundsCase : List ℕ → Case
+roundsCase h = cond (leb (wordAt h 1) 32767) (tableCase (wordAt h 0) (wordAt h 1) (sizesAt h 2)) Bad
+
 -- what a case asks for, by its kind and the bytes of its numbers
 unfoldable pub caseOf : ℕ → List ℕ → Case
 caseOf kind h =
-    cond (eqb kind 1) (judgeCase (sizesAt h 0)) (cond (eqb kind 2) (answersCase (sizesAt h 0)) (cond (eqb kind 3) (shownCase h) (cond (eqb kind 4) (bytesCase h) Bad)))
+    cond (eqb kind 1) (judgeCase (sizesAt h 0)) (cond (eqb kind 2) (answersCase (sizesAt h 0)) (cond (eqb kind 3) (shownCase h) (cond (eqb kind 4) (bytesCase h) (cond (eqb kind 5) (roundsCase h) Bad))))
 
 -- how many bytes follow the numbers: the papers; or the bytes, and one of padding after an odd count
 unfoldable pub sizeOf : Case → ℕ
@@ -55,6 +63,7 @@ sizeOf (Judge d c) = 2 * (d + c)
 sizeOf (Answers t d) = 2 * d
 sizeOf (Shown paper place count d c) = 2 * (d + c)
 sizeOf (Bytes n) = n + n % 2
+sizeOf (Rounds fill t d c) = 2 * (d + c)
 
 -- within the limits
 unfoldable pub Fits : Case → Type 0
@@ -63,3 +72,4 @@ Fits (Judge d c) = d + c ≤ 32767
 Fits (Answers t d) = t + d ≤ 32767
 Fits (Shown paper place count d c) = d + c ≤ 32767
 Fits (Bytes n) = n ≤ 70000
+Fits (Rounds fill t d c) = (t ≤ 32767) × (d + c ≤ 32767)

@@ -1,29 +1,24 @@
 -- The line that a case prints.
 use Prim.Native.Nat.{ℕ, _≤_}
 use mathlib.Core.List.{List}
-use lib.ListN.{length, take}
-use Rattle.promise.specs.Place.{part, rows}
+use lib.ListN.{length, take, replicate}
+use Rattle.promise.specs.Place.{part}
 use Rattle.judging.specs.Judge.{judgeOf}
 use Rattle.text.specs.Line.{lineOf, inputLine}
 use Rattle.printed.specs.Printed.{wordsOf, printed}
-use Rattle.printed.specs.Lists.{answersLine, asking, shownLine}
+use Rattle.printed.specs.Lists.{answersLine, roundsLine, asking, shownLine}
 use Rattle.trial.specs.declared.Case.{Case}
-use Rattle.trial.specs.declared.Case.the-variants.{Bad, Judge, Answers, Shown, Bytes}
+use Rattle.trial.specs.declared.Case.the-variants.{Bad, Judge, Answers, Shown, Bytes, Rounds}
 
--- a table with 7 in every word
-unfoldable pub seven : ℕ → ℕ
-seven j = 7
-
-unfoldable pub sevens : ℕ → List ℕ
-sevens n = rows seven n
-
--- with the words ws, or the bytes bs, that follow its numbers: a paper, and the second after the first
+-- With the words ws, or the bytes bs, that follow its numbers: a paper, and the second after the first. "Kind 1 lends 64 words"; for kind 5 "the table is lent with the fill in
+-- every word" (request A5); kind 2 lends a table with 7 in every word.
 unfoldable pub lineFor : Case → List ℕ → List ℕ → List ℕ
 lineFor Bad ws bs = inputLine
-lineFor (Judge d c) ws bs = lineOf (judgeOf (part ws 0 d) (part ws d c))
-lineFor (Answers t d) ws bs = answersLine (part ws 0 d) (sevens t)
+lineFor (Judge d c) ws bs = lineOf (judgeOf (part ws 0 d) (part ws d c) 64)
+lineFor (Answers t d) ws bs = answersLine (part ws 0 d) (replicate t 7)
 lineFor (Shown paper place count d c) ws bs = shownLine (part ws 0 d) (part ws d c) (asking paper place count)
 lineFor (Bytes n) ws bs = printed (take n bs)
+lineFor (Rounds fill t d c) ws bs = roundsLine (part ws 0 d) (part ws d c) (replicate t fill)
 
 unfoldable pub caseLine : Case → List ℕ → List ℕ
 caseLine case bs = lineFor case (wordsOf bs) bs

@@ -4,22 +4,24 @@ use libc::STDOUT_FILENO;
 use reply::Paper;
 ghost use mathlib.Core.Path.{_≡_};
 ghost use Prim.Native.Nat.{_+_, _*_, _≤_};
-ghost use lib.ListN.{length};
+ghost use lib.ListN.{length, replicate};
 ghost use Rattle.promise.specs.Place.{part};
 ghost use Rattle.text.specs.Line.{put};
-ghost use Rattle.printed.specs.Lists.{answersLine, asking, shownLine};
-ghost use Rattle.trial.specs.Case.{headerOf, sizesAt, judgeCase, answersCase, paperCase, shownCase, bytesCase, caseOf, sizeOf, Fits};
-ghost use Rattle.trial.specs.Line.{sevens, caseLine, Room};
+ghost use Rattle.printed.specs.Lists.{answersLine, roundsLine, asking, shownLine};
+ghost use Rattle.trial.specs.Case.{headerOf, sizesAt, judgeCase, answersCase, paperCase, shownCase, bytesCase, tableCase, roundsCase, caseOf, sizeOf, Fits};
+ghost use Rattle.trial.specs.Line.{caseLine, Room};
 
 // What a case asks for: the judge's line, for so many words of the dossier and of the certificate; the answers' line, for so
 // many of the table and of the dossier; the line of shown words, by paper, place and count, for so many words of the dossier
-// and of the certificate; the line for so many bytes of standard input. Or it is no case.
+// and of the certificate; the line for so many bytes of standard input; the judge's line and its table, by what the table is filled with,
+// for so many words of it, of the dossier and of the certificate. Or it is no case.
 enum Case {
     Bad,
     Judge(usize, usize),
     Answers(usize, usize),
     Shown(Paper, usize, usize, usize, usize),
     Bytes(usize),
+    Rounds(u16, usize, usize, usize),
 }
 
 // How many words two papers have, or a table and a paper; or they are above the limit, 32,767 together.
@@ -53,7 +55,10 @@ fn blank() -> [u8; 196704]
 fn header_size(kind: u16) -> usize
     ensures { λ r. ⌜ r ≡ headerOf kind ⌝ }
 {
-    if kind == 3 { 10 } else { 4 }
+    if kind == 3 {
+        return 10;
+    }
+    if kind == 5 { 8 } else { 4 }
 }
 
 // Words i and i + 1 of the numbers, which say how long two papers are, or a table and a paper.
@@ -133,6 +138,31 @@ fn bytes_case(header: &[u8]) -> Case
     }
 }
 
+// Kind 5, with what its table is filled with, and how many words it has: the dossier's length and the certificate's.
+fn table_case(fill: u16, t: usize, sizes: Sizes) -> Case
+    ensures { λ r. ⌜ r ≡ tableCase fill t sizes ⌝ }
+{
+    match sizes {
+        Sizes::Over => Case::Bad,
+        Sizes::Both(d, c) => Case::Rounds(fill, t, d, c),
+    }
+}
+
+// Kind 5: its table has at most 32,767 words.
+fn rounds_case(header: &[u8]) -> Case
+    requires { ⌜ 8 ≤ length (now header) ⌝ }
+    ensures { λ r. ⌜ r ≡ roundsCase (now (header .entry)) ⌝ }
+{
+    let fill = text::word_at(header, 0);
+    let t = text::word_at(header, 1) as usize;
+    let sizes = sizes_at(header, 2);
+    if t <= 32767 {
+        table_case(fill, t, sizes)
+    } else {
+        Case::Bad
+    }
+}
+
 // What a case of this kind asks for, with these numbers before its papers.
 fn case_of(kind: u16, header: &[u8]) -> Case
     requires { ⌜ headerOf kind ≤ length (now header) ⌝ }
@@ -150,6 +180,9 @@ fn case_of(kind: u16, header: &[u8]) -> Case
     if kind == 4 {
         return bytes_case(header);
     }
+    if kind == 5 {
+        return rounds_case(header);
+    }
     Case::Bad
 }
 
@@ -164,17 +197,18 @@ fn body_size(case: Case) -> usize
         Case::Answers(_, d) => 2 * d,
         Case::Shown(_, _, _, d, c) => 2 * (d + c),
         Case::Bytes(n) => n + n % 2,
+        Case::Rounds(_, _, d, c) => 2 * (d + c),
     }
 }
 
-// 7 in every word of the table.
-fn fill(table: &mut [u16])
-    ensures { λ _. ⌜ now (table .exit) ≡ sevens (length (now (table .entry))) ⌝ }
+// The word x in every word of the table.
+fn fill(table: &mut [u16], x: u16)
+    ensures { λ _. ⌜ now (table .exit) ≡ replicate (length (now (table .entry))) x ⌝ }
 {
     let n = table.len();
     let mut i = 0;
     while i < n {
-        table[i] = 7;
+        table[i] = x;
         i += 1;
     }
 }
@@ -182,10 +216,10 @@ fn fill(table: &mut [u16])
 // The answers' line for a table that is lent with 7 in every word.
 fn sevens_line(dossier: &[u16], table: &mut [u16], out: &mut [u8]) -> usize
     requires { ⌜ 96 + 6 * length (now table) ≤ length (now out) ⌝ }
-    ensures { λ r. ⌜ (now (out .exit) ≡ put (now (out .entry)) 0 (answersLine (now (dossier .entry)) (sevens (length (now (table .entry))))))
-        × (r ≡ length (answersLine (now (dossier .entry)) (sevens (length (now (table .entry)))))) ⌝ }
+    ensures { λ r. ⌜ (now (out .exit) ≡ put (now (out .entry)) 0 (answersLine (now (dossier .entry)) (replicate (length (now (table .entry))) 7)))
+        × (r ≡ length (answersLine (now (dossier .entry)) (replicate (length (now (table .entry))) 7))) ⌝ }
 {
-    fill(table);
+    fill(table, 7);
     printed::answers_line(dossier, table, out)
 }
 
@@ -207,6 +241,18 @@ fn shown_at(
     printed::shown_line(&words[..d], &words[d..end], paper, place, count, out)
 }
 
+// The judge's line for a table that is lent with the word x in every word, and then the table; the dossier's words are first, and the
+// certificate's after them.
+fn rounds_at(words: &[u16], x: u16, d: usize, c: usize, table: &mut [u16], out: &mut [u8]) -> usize
+    requires { ⌜ (d + c ≤ length (now words)) × (96 + 6 * length (now table) ≤ length (now out)) ⌝ }
+    ensures { λ r. ⌜ (now (out .exit) ≡ put (now (out .entry)) 0 (roundsLine (part (now (words .entry)) 0 d) (part (now (words .entry)) d c) (replicate (length (now (table .entry))) x)))
+        × (r ≡ length (roundsLine (part (now (words .entry)) 0 d) (part (now (words .entry)) d c) (replicate (length (now (table .entry))) x))) ⌝ }
+{
+    let end = d + c;
+    fill(table, x);
+    printed::rounds_line(&words[..d], &words[d..end], table, out)
+}
+
 // The line that a case prints, with the bytes that follow its numbers. Answers how many bytes the line has.
 fn case_line(case: Case, body: &[u8], words: &mut [u16], table: &mut [u16], out: &mut [u8]) -> usize
     requires { ⌜ Fits case × (length (now body) ≡ sizeOf case) × Room (now words) (now table) (now out) ⌝ }
@@ -219,6 +265,7 @@ fn case_line(case: Case, body: &[u8], words: &mut [u16], table: &mut [u16], out:
         Case::Answers(t, d) => sevens_line(&words[..d], &mut table[..t], out),
         Case::Shown(paper, place, count, d, c) => shown_at(words, paper, place, count, d, c, out),
         Case::Bytes(n) => printed::stdin_line(&body[..n], words, out),
+        Case::Rounds(x, t, d, c) => rounds_at(words, x, d, c, &mut table[..t], out),
     }
 }
 

@@ -1,6 +1,6 @@
 -- From what the searches find to the judge's outcome and its reply.
 use Prim.Native.Nat.{ℕ, _-_, _<_, _≤_}
-use mathlib.Core.Path.{_≡_, refl, sym, ap, ap₂, _∙_}
+use mathlib.Core.Path.{_≡_, refl, sym, ap, ap₂, _∙_, subst}
 use mathlib.Core.Bool.{Bool, true, false, not}
 use mathlib.Core.List.{List}
 use mathlib.Core.Option.{Option, none, some}
@@ -8,10 +8,11 @@ use native.Mathlib.Omega.{arith}
 use lib.ListN.{length, getD}
 use Rattle.meaning.specs.Tests.{agree, at, named, choose, lowest, _is_}
 use Rattle.meaning.specs.Looks.{aim}
-use Rattle.meaning.specs.Papers.{Dossier, Line, answer, witness, proof}
+use Rattle.meaning.specs.Policy.{Policy}
+use Rattle.meaning.specs.Papers.{Entry, Dossier, Line, answer, witness, proof}
 use Rattle.meaning.specs.Rules.{lineFollows}
-use Rattle.meaning.specs.Verdict.{Outcome, opaque, detectable, probeDiffers, secretKept, lineFails, lastNotEmpty, tried, probeAgrees, lastEmpty, decide, judge}
-use Rattle.promise.specs.Place.{many, place, Starts}
+use Rattle.meaning.specs.Verdict.{Outcome, opaque, detectable, probeDiffers, secretKept, lineFails, lastNotEmpty, tried, probeAgrees, lastEmpty, decide, judge, about, roundIn}
+use Rattle.promise.specs.Place.{many, place, Starts, filled}
 use Rattle.promise.specs.Clause.{credential}
 use Rattle.promise.specs.Formula.{entry}
 use Rattle.promise.specs.Line.{literal, lineAt, line}
@@ -24,11 +25,11 @@ use Rattle.reply.specs.Answer.{accepted}
 use Rattle.reply.specs.declared.Reply.{Reply}
 use Rattle.reply.specs.declared.Paper.the-variants as paper
 use Rattle.reply.specs.declared.Verdict.the-variants as said
-use Rattle.evaluation.specs.Which.{policyAt}
-use Rattle.evaluation.specs.Answer.{answerOf}
+use Rattle.evaluation.specs.Which.{policyAt, joinedAt}
+use Rattle.evaluation.specs.Answer.{answerOf, roundOf}
 use Rattle.evaluation.specs.declared.Which.the-variants.{Tried}
 use Rattle.lines.specs.Ready.{ProbeStarts}
-use Rattle.verdict.specs.Told.{showing, replyAt, asFault}
+use Rattle.verdict.specs.Told.{showing, replyAt, numbered, roundsAt, Says, asFault}
 use Rattle.verdict.specs.declared.Fault.{Fault}
 use Rattle.verdict.specs.declared.Fault.the-variants as fault
 use Rattle.verdict.proofs.Lowest.{lowest-below}
@@ -56,54 +57,78 @@ module _ {x : Option ℕ} {f : Fault} (e : f ≡ asFault x) where
 -- ---- a witness
 
 module _ (d : List ℕ) (o : Layout) (w : List ℕ) (k : ℕ) where
-  D : Dossier
+  abbrev D : Dossier
   D = dossierAt d o
 
-  -- the reply r is the one for the secret's answer in the policy tried
-  abbrev Judged : Reply → Type 0
-  Judged r = r ≡ replyAt d o w k (choose (agree (answer (dossierAt d o) (tried (dossierAt d o) (many (credential (o .atoms)) w 2 k)) (dossierAt d o .secret)) (not (aim (dossierAt d o)))) opaque secretKept)
+  abbrev W : Policy
+  W = many (credential (o .atoms)) w 2 k
+
+  -- r is the reply for the outcome x, and u what the table then holds, which held t
+  abbrev SaysWitness : Outcome → List ℕ → Reply → List ℕ → Type 0
+  SaysWitness x t r u = Says d o w k (witness (many (credential (o .atoms)) w 2 k)) x t r u
+
+  -- what the entry at p is explained with
+  abbrev Explained : ℕ → List ℕ → List ℕ → Type 0
+  Explained p t u = u ≡ filled (roundOf d o w (Tried k) p) (o .atoms) t
+
+  module _ {t : List ℕ} {r : Reply} {u : List ℕ} where
+    says-probe : (j : ℕ) → j < o .nprobes → (probes : List ℕ) → ProbeStarts d o probes → r ≡ showing 14 paper.Dossier thing.Entry d (getD probes j 0) → Explained (getD probes j 0) t u → SaysWitness (probeDiffers j) t r u
+    unfolding replyAt nextOf roundsAt numbered about roundIn roundOf joinedAt policyAt dossierAt
+    says-probe j h probes s g x =
+        record {
+          reply = g ∙ ap (λ (p : ℕ). showing 14 paper.Dossier thing.Entry d p) (s .each j h);
+          table = x ∙ ap (λ (p : ℕ). filled (roundOf d o w (Tried k) p) (o .atoms) t) (s .each j h) ∙ ap (λ (y : Option Entry). numbered (o .atoms) D W y t) (sym (many-at (entry (o .atoms) (o .ncreds)) d (o .probes) (o .nprobes) j h));
+        }
+
+    says-secret : r ≡ showing 15 paper.Dossier thing.Entry d (o .secret) → Explained (o .secret) t u → SaysWitness secretKept t r u
+    unfolding replyAt roundsAt numbered about roundIn roundOf joinedAt policyAt dossierAt
+    says-secret g x = record { reply = g; table = x }
+
+    says-opaque : r ≡ accepted said.Opaque → u ≡ t → SaysWitness opaque t r u
+    unfolding replyAt roundsAt numbered about
+    says-opaque g x = record { reply = g; table = x }
+
+  -- the outcome, by the lowest probe that differs, and by the secret's answer
+  abbrev by-secret : Outcome
+  by-secret = choose (agree (answer (dossierAt d o) (tried (dossierAt d o) (many (credential (o .atoms)) w 2 k)) (dossierAt d o .secret)) (not (aim (dossierAt d o)))) opaque secretKept
 
   module _ {f : Fault} (e : f ≡ asFault (lowest (probeAgrees (dossierAt d o) (many (credential (o .atoms)) w 2 k)) 0 (o .nprobes))) where
-    probes-many : length (D .probes) ≡ o .nprobes
-    unfolding D dossierAt
-    probes-many = many-length (entry (o .atoms) (o .ncreds)) d (o .probes) (o .nprobes)
+    judged-by : {x : Option ℕ} → lowest (probeAgrees D W) 0 (o .nprobes) ≡ x → decide x probeDiffers (agree (answer D (tried D W) (D .secret)) (not (aim D))) opaque secretKept ≡ judge D (witness W)
+    unfolding judge dossierAt
+    judged-by h = sym (ap (λ (n : ℕ). decide (lowest (probeAgrees D W) 0 n) probeDiffers (agree (answer D (tried D W) (D .secret)) (not (aim D))) opaque secretKept) (many-length (entry (o .atoms) (o .ncreds)) d (o .probes) (o .nprobes)) ∙ ap (λ (x : Option ℕ). decide x probeDiffers (agree (answer D (tried D W) (D .secret)) (not (aim D))) opaque secretKept) h)
 
     pub probe-below : {j : ℕ} → f ≡ fault.At j → j < o .nprobes
     probe-below h = lowest-below _ _ _ (fault-at e h)
 
-    pub witness-differs : {j : ℕ} {r : Reply} (probes : List ℕ) → ProbeStarts d o probes → f ≡ fault.At j → r ≡ showing 14 paper.Dossier thing.Entry d (getD probes j 0) → r ≡ replyAt d o w k (judge (dossierAt d o) (witness (many (credential (o .atoms)) w 2 k)))
-    unfolding judge decide replyAt nextOf D
-    witness-differs {j} {r} probes s h g =
-        let out : lowest (probeAgrees D (many (credential (o .atoms)) w 2 k)) 0 (length (D .probes)) ≡ some j = ap (λ (n : ℕ). lowest (probeAgrees D (many (credential (o .atoms)) w 2 k)) 0 n) probes-many ∙ fault-at e h in
-        g ∙ ap (λ (p : ℕ). showing 14 paper.Dossier thing.Entry d p) (s .each j (probe-below h))
-        ∙ ap (λ (x : Option ℕ). replyAt d o w k (decide x probeDiffers (agree (answer D (tried D (many (credential (o .atoms)) w 2 k)) (D .secret)) (not (aim D))) opaque secretKept)) (sym out)
+    module _ {t : List ℕ} {r : Reply} {u : List ℕ} where
+      pub witness-differs : {j : ℕ} (probes : List ℕ) → ProbeStarts d o probes → f ≡ fault.At j → r ≡ showing 14 paper.Dossier thing.Entry d (getD probes j 0) → Explained (getD probes j 0) t u → SaysWitness (judge (dossierAt d o) (witness (many (credential (o .atoms)) w 2 k))) t r u
+      unfolding decide
+      witness-differs {j} probes s h g x = subst (λ (y : Outcome). SaysWitness y t r u) (judged-by (fault-at e h)) (says-probe j (probe-below h) probes s g x)
 
-    pub witness-alike : {r : Reply} → f ≡ fault.Nowhere → Judged r → r ≡ replyAt d o w k (judge (dossierAt d o) (witness (many (credential (o .atoms)) w 2 k)))
-    unfolding judge decide D
-    witness-alike {r} h g =
-        let out : lowest (probeAgrees D (many (credential (o .atoms)) w 2 k)) 0 (length (D .probes)) ≡ none = ap (λ (n : ℕ). lowest (probeAgrees D (many (credential (o .atoms)) w 2 k)) 0 n) probes-many ∙ fault-none e h in
-        g ∙ ap (λ (x : Option ℕ). replyAt d o w k (decide x probeDiffers (agree (answer D (tried D (many (credential (o .atoms)) w 2 k)) (D .secret)) (not (aim D))) opaque secretKept)) (sym out)
+      pub witness-alike : f ≡ fault.Nowhere → SaysWitness by-secret t r u → SaysWitness (judge (dossierAt d o) (witness (many (credential (o .atoms)) w 2 k))) t r u
+      unfolding decide
+      witness-alike h g = subst (λ (y : Outcome). SaysWitness y t r u) (judged-by (fault-none e h)) g
+
+  opposite : (b goal : Bool) → agree b (not goal) ≡ not (agree b goal)
+  unfolding agree
+  opposite true goal = refl
+  opposite false true = refl
+  opposite false false = refl
 
   -- the secret, by its answer in the policy tried and its value in the dossier's own
-  by-secret : (b goal : Bool) → choose (agree b goal) (showing 15 paper.Dossier thing.Entry d (o .secret)) (accepted said.Opaque) ≡ replyAt d o w k (choose (agree b (not goal)) opaque secretKept)
-  unfolding replyAt choose agree
-  by-secret true true = refl
-  by-secret true false = refl
-  by-secret false true = refl
-  by-secret false false = refl
-
-  module _ {b goal : Bool} (e : b ≡ answerOf d o w (Tried k) (o .secret)) (f : goal ≡ aim (dossierAt d o)) {r : Reply} where
-    secret-told : r ≡ choose (agree b goal) (showing 15 paper.Dossier thing.Entry d (o .secret)) (accepted said.Opaque) → Judged r
+  module _ {b goal : Bool} (e : b ≡ answerOf d o w (Tried k) (o .secret)) (f : goal ≡ aim (dossierAt d o)) where
+    secret-by : {v : Bool} → agree b goal ≡ v → choose (not v) opaque secretKept ≡ by-secret
     unfolding answerOf policyAt dossierAt
-    secret-told g = g ∙ by-secret b goal ∙ ap₂ (λ (x y : Bool). replyAt d o w k (choose (agree x (not y)) opaque secretKept)) e f
+    secret-by h = ap (λ (v : Bool). choose v opaque secretKept) (ap not (sym h) ∙ sym (opposite b goal)) ∙ ap₂ (λ (x y : Bool). choose (agree x (not y)) opaque secretKept) e f
 
-    pub secret-kept : agree b goal ≡ true → r ≡ showing 15 paper.Dossier thing.Entry d (o .secret) → Judged r
-    unfolding choose
-    secret-kept h g = secret-told (rw h g)
+    module _ {t : List ℕ} {r : Reply} {u : List ℕ} where
+      pub secret-kept : agree b goal ≡ true → r ≡ showing 15 paper.Dossier thing.Entry d (o .secret) → Explained (o .secret) t u → SaysWitness by-secret t r u
+      unfolding choose
+      secret-kept h g x = subst (λ (y : Outcome). SaysWitness y t r u) (secret-by h) (says-secret g x)
 
-    pub secret-changed : agree b goal ≡ false → r ≡ accepted said.Opaque → Judged r
-    unfolding choose
-    secret-changed h g = secret-told (rw h g)
+      pub secret-changed : agree b goal ≡ false → r ≡ accepted said.Opaque → u ≡ t → SaysWitness by-secret t r u
+      unfolding choose
+      secret-changed h g x = subst (λ (y : Outcome). SaysWitness y t r u) (secret-by h) (says-opaque g x)
 
 -- ---- a proof
 

@@ -29,7 +29,7 @@ use Rattle.evaluation.specs.Which.{policyAt}
 use Rattle.evaluation.specs.Answer.{answerOf, answerWord}
 use Rattle.lines.specs.Ready as rules
 use Rattle.lines.specs.Ready.{ProbeStarts}
-use Rattle.verdict.specs.Told.{replyAt, sizeOf, Told}
+use Rattle.verdict.specs.Told.{replyAt, roundsAt, Says, sizeOf, Told}
 
 module _ (d : List ℕ) (o : Layout) (l : Laid d o) where
   pub clauses-fit : FitOf thing.Clause d (o .clauses) (o .nclauses)
@@ -90,11 +90,15 @@ pub proof-there : (n : ℕ) (c : List ℕ) {proposal : Proposal} {k : ℕ} → p
 unfolding Proposed
 proof-there n c e h = subst (Proposed n c) e h
 
-module _ (d : List ℕ) (o : Layout) (c : List ℕ) {proposal : Proposal} {k : ℕ} {r : Reply} where
-  pub witness-judged : proposal ≡ Witness k → r ≡ replyAt d o c k (judge (dossierAt d o) (witness (many (credential (o .atoms)) c 2 k))) → r ≡ replyAt d o c (sizeOf proposal) (judge (dossierAt d o) (certificateAt (o .atoms) c proposal))
-  unfolding certificateAt
-  witness-judged e g = g ∙ ap (λ (p : Proposal). replyAt d o c (sizeOf p) (judge (dossierAt d o) (certificateAt (o .atoms) c p))) (sym e)
+-- r is the reply to the proposal x, and u what the table then holds, which held t
+abbrev Judged : List ℕ → Layout → List ℕ → List ℕ → Reply → List ℕ → Proposal → Type 0
+Judged d o c t r u x = Says d o c (sizeOf x) (certificateAt (o .atoms) c x) (judge (dossierAt d o) (certificateAt (o .atoms) c x)) t r u
 
-  pub proof-judged : proposal ≡ Proof k → r ≡ replyAt d o c k (judge (dossierAt d o) (proof (many line c 2 k))) → r ≡ replyAt d o c (sizeOf proposal) (judge (dossierAt d o) (certificateAt (o .atoms) c proposal))
+module _ (d : List ℕ) (o : Layout) (c : List ℕ) {proposal : Proposal} {k : ℕ} {t : List ℕ} {r : Reply} {u : List ℕ} where
+  pub witness-judged : proposal ≡ Witness k → Says d o c k (witness (many (credential (o .atoms)) c 2 k)) (judge (dossierAt d o) (witness (many (credential (o .atoms)) c 2 k))) t r u → Judged d o c t r u proposal
   unfolding certificateAt
-  proof-judged e g = g ∙ ap (λ (p : Proposal). replyAt d o c (sizeOf p) (judge (dossierAt d o) (certificateAt (o .atoms) c p))) (sym e)
+  witness-judged e g = subst (Judged d o c t r u) (sym e) g
+
+  pub proof-judged : proposal ≡ Proof k → r ≡ replyAt d o c k (judge (dossierAt d o) (proof (many line c 2 k))) → u ≡ t → Judged d o c t r u proposal
+  unfolding certificateAt roundsAt
+  proof-judged e g x = subst (Judged d o c t r u) (sym e) (record { reply = g; table = x })

@@ -1,11 +1,14 @@
--- The reply for an outcome, and what judging needs to have been found.
+-- The reply for an outcome, what the lent table then holds, and what judging needs to have been found.
 use Prim.Native.Nat.{ℕ, _-_, _<_, _≤_}
 use mathlib.Core.Path.{_≡_}
 use mathlib.Core.List.{List}
 use mathlib.Core.Option.{Option, none, some}
 use lib.ListN.{length, getD}
-use Rattle.meaning.specs.Verdict.{Outcome, opaque, detectable, probeDiffers, secretKept, lineFails, lastNotEmpty}
-use Rattle.promise.specs.Place.{place}
+use Rattle.meaning.specs.Policy.{Policy}
+use Rattle.meaning.specs.Papers as papers
+use Rattle.meaning.specs.Verdict.{Outcome, opaque, detectable, probeDiffers, secretKept, lineFails, lastNotEmpty, about, roundIn}
+use Rattle.promise.specs.Layout.{dossierAt}
+use Rattle.promise.specs.Place.{place, filled}
 use Rattle.promise.specs.Thing.{nextOf}
 use Rattle.promise.specs.declared.Layout.{Layout}
 use Rattle.promise.specs.declared.Proposal.{Proposal}
@@ -33,6 +36,21 @@ replyAt d o c k (probeDiffers j) = showing 14 Dossier Entry d (place (nextOf Ent
 replyAt d o c k secretKept = showing 15 Dossier Entry d (o .secret)
 replyAt d o c k (lineFails j) = showing 16 Certificate Line c (place (nextOf Line c) 2 j)
 replyAt d o c k lastNotEmpty = showing 17 Certificate Line c (place (nextOf Line c) 2 (k - 1))
+
+-- The lent table t after an outcome (request A5), n being the number of atoms: "On 14 and 15 the words 0 to n - 1 of the lent table become these numbers"; "words beyond
+-- n stay. Every other reply leaves the table untouched."
+unfoldable pub numbered : ℕ → papers.Dossier → Policy → Option papers.Entry → List ℕ → List ℕ
+numbered n D W none t = t
+numbered n D W (some e) t = filled (roundIn D W e) n t
+
+unfoldable pub roundsAt : ℕ → papers.Dossier → papers.Certificate → Outcome → List ℕ → List ℕ
+roundsAt n D (papers.witness W) x t = numbered n D W (about D x) t
+roundsAt n D (papers.proof lines) x t = t
+
+-- r is the reply for the outcome x on the certificate C, and the lent table, which held t, then holds u
+pub record Says (d : List ℕ) (o : Layout) (c : List ℕ) (k : ℕ) (C : papers.Certificate) (x : Outcome) (t : List ℕ) (r : Reply) (u : List ℕ) : Type 0 where
+  pub reply : r ≡ replyAt d o c k x
+  pub table : u ≡ roundsAt (o .atoms) (dossierAt d o) C x t
 
 -- how many clauses a witness has, or lines a proof
 abbrev pub sizeOf : Proposal → ℕ

@@ -14,8 +14,9 @@ ghost use Rattle.meaning.specs.Tests.{_is_, agree, choose, lowest};
 ghost use Rattle.meaning.specs.Looks.{aim};
 ghost use Rattle.meaning.specs.Papers as papers;
 ghost use Rattle.meaning.specs.Verdict as meant;
-ghost use Rattle.promise.specs.Place.{many, Fit};
+ghost use Rattle.promise.specs.Place.{many, Fit, filled};
 ghost use Rattle.promise.specs.Clause.{credential};
+ghost use Rattle.promise.specs.Formula.{EntryFits};
 ghost use Rattle.promise.specs.Layout.{dossierAt, Laid, certificateAt, Proposed};
 ghost use Rattle.promise.specs.Line.{lineAt, line};
 ghost use Rattle.promise.specs.declared.Thing.the-variants as thing;
@@ -23,12 +24,13 @@ ghost use Rattle.meaning.specs.Rules.{lineFollows};
 ghost use Rattle.lines.specs.Ready as rules;
 ghost use Rattle.lines.specs.Ready.{ProbeStarts};
 ghost use Rattle.promise.specs.Thing.{nextOf, okOf};
+ghost use Rattle.evaluation.specs.Answer.{roundOf};
 ghost use Rattle.evaluation.specs.Which.{Ready};
 ghost use Rattle.evaluation.specs.declared.Which.the-variants.{Tried};
 ghost use Rattle.reply.specs.Answer.{accepted};
 ghost use Rattle.reply.specs.declared.Paper.the-variants as paper;
 ghost use Rattle.reply.specs.declared.Verdict.the-variants as verdict;
-ghost use Rattle.verdict.specs.Told.{showing, replyAt, sizeOf, asFault, Told};
+ghost use Rattle.verdict.specs.Told.{showing, replyAt, Says, sizeOf, asFault, Told};
 
 // The lowest number at fault, if there is one.
 pub enum Fault {
@@ -112,18 +114,45 @@ fn own_secret(d: &[u16], o: Layout, creds: &[usize]) -> bool
     evaluation::answer_at(d, o, creds, d, Which::Own, o.secret)
 }
 
+// The refusal that shows the entry at p, which the policy tried answers otherwise than it has to; the table gets the number of the
+// round that first adds each atom there.
+fn explaining(
+    number: u16,
+    d: &[u16],
+    o: Layout,
+    creds: &[usize],
+    w: &[u16],
+    k: usize,
+    p: usize,
+    rounds: &mut [u16],
+) -> Reply
+    requires { ⌜ Ready (now d) o (now creds) (now w) (Tried k) × EntryFits (o .atoms) (o .ncreds) (now d) p × (o .atoms ≤ length (now rounds)) ⌝ }
+    ensures { λ r. ⌜ (r ≡ showing number paper.Dossier thing.Entry (now (d .entry)) p)
+        × (now (rounds .exit) ≡ filled (roundOf (now (d .entry)) o (now (w .entry)) (Tried k) p) (o .atoms) (now (rounds .entry))) ⌝ }
+{
+    evaluation::rounds_at(d, o, creds, w, Which::Tried(k), p, rounds);
+    refusing(number, Paper::Dossier, Thing::Entry, d, p)
+}
+
 // With every probe answered alike: the secret.
-fn judge_secret(d: &[u16], o: Layout, creds: &[usize], w: &[u16], k: usize) -> Reply
-    requires { ⌜ Ready (now d) o (now creds) (now w) (Tried k) ⌝ }
-    ensures { λ r. ⌜ r ≡ replyAt (now (d .entry)) o (now (w .entry)) k (choose
+fn judge_secret(
+    d: &[u16],
+    o: Layout,
+    creds: &[usize],
+    w: &[u16],
+    k: usize,
+    rounds: &mut [u16],
+) -> Reply
+    requires { ⌜ Ready (now d) o (now creds) (now w) (Tried k) × (o .atoms ≤ length (now rounds)) ⌝ }
+    ensures { λ r. ⌜ Says (now (d .entry)) o (now (w .entry)) k (papers.witness (many (credential (o .atoms)) (now (w .entry)) 2 k)) (choose
         (agree (papers.answer (dossierAt (now (d .entry)) o) (meant.tried (dossierAt (now (d .entry)) o) (many (credential (o .atoms)) (now (w .entry)) 2 k)) (dossierAt (now (d .entry)) o .secret)) (not (aim (dossierAt (now (d .entry)) o))))
-        meant.opaque meant.secretKept) ⌝ }
+        meant.opaque meant.secretKept) (now (rounds .entry)) r (now (rounds .exit)) ⌝ }
 {
     let p = o.secret;
     if evaluation::answer_at(d, o, creds, w, Which::Tried(k), p) != own_secret(d, o, creds) {
         accepting(Verdict::Opaque)
     } else {
-        refusing(15, Paper::Dossier, Thing::Entry, d, p)
+        explaining(15, d, o, creds, w, k, p, rounds)
     }
 }
 
@@ -136,13 +165,15 @@ fn judge_witness(
     told: &[u16],
     w: &[u16],
     k: usize,
+    rounds: &mut [u16],
 ) -> Reply
-    requires { ⌜ Ready (now d) o (now creds) (now w) (Tried k) × ProbeStarts (now d) o (now probes) × Told (now d) o (now told) ⌝ }
-    ensures { λ r. ⌜ r ≡ replyAt (now (d .entry)) o (now (w .entry)) k (meant.judge (dossierAt (now (d .entry)) o) (papers.witness (many (credential (o .atoms)) (now (w .entry)) 2 k))) ⌝ }
+    requires { ⌜ Ready (now d) o (now creds) (now w) (Tried k) × ProbeStarts (now d) o (now probes) × Told (now d) o (now told) × (o .atoms ≤ length (now rounds)) ⌝ }
+    ensures { λ r. ⌜ Says (now (d .entry)) o (now (w .entry)) k (papers.witness (many (credential (o .atoms)) (now (w .entry)) 2 k))
+        (meant.judge (dossierAt (now (d .entry)) o) (papers.witness (many (credential (o .atoms)) (now (w .entry)) 2 k))) (now (rounds .entry)) r (now (rounds .exit)) ⌝ }
 {
     match first_differing(d, o, creds, probes, told, w, k) {
-        Fault::At(j) => refusing(14, Paper::Dossier, Thing::Entry, d, probes[j]),
-        Fault::Nowhere => judge_secret(d, o, creds, w, k),
+        Fault::At(j) => explaining(14, d, o, creds, w, k, probes[j], rounds),
+        Fault::Nowhere => judge_secret(d, o, creds, w, k, rounds),
     }
 }
 
@@ -234,9 +265,11 @@ fn judge_lines(
 }
 
 // The judgement of two sound papers: d has the layout o, and c has that proposal. `told` is blank, then has the dossier's answers.
-pub fn judge_sound(d: &[u16], o: Layout, c: &[u16], proposal: Proposal) -> Reply
-    requires { ⌜ Laid (now d) o × Proposed (o .atoms) (now c) proposal ⌝ }
-    ensures { λ r. ⌜ r ≡ replyAt (now (d .entry)) o (now (c .entry)) (sizeOf proposal) (meant.judge (dossierAt (now (d .entry)) o) (certificateAt (o .atoms) (now (c .entry)) proposal)) ⌝ }
+// On 14 and 15 `rounds` gets the number of the round that first adds each atom, in the policy tried with the credentials of that entry.
+pub fn judge_sound(d: &[u16], o: Layout, c: &[u16], proposal: Proposal, rounds: &mut [u16]) -> Reply
+    requires { ⌜ Laid (now d) o × Proposed (o .atoms) (now c) proposal × (o .atoms ≤ length (now rounds)) ⌝ }
+    ensures { λ r. ⌜ Says (now (d .entry)) o (now (c .entry)) (sizeOf proposal) (certificateAt (o .atoms) (now (c .entry)) proposal)
+        (meant.judge (dossierAt (now (d .entry)) o) (certificateAt (o .atoms) (now (c .entry)) proposal)) (now (rounds .entry)) r (now (rounds .exit)) ⌝ }
 {
     let mut creds = [0usize; 32];
     let mut probes = [0usize; 64];
@@ -246,7 +279,7 @@ pub fn judge_sound(d: &[u16], o: Layout, c: &[u16], proposal: Proposal) -> Reply
     promise::starts(d, o.probes, o.nprobes, Thing::Entry, &mut probes);
     evaluation::answers(d, o, &creds, &probes, c, &mut told);
     match proposal {
-        Proposal::Witness(k) => judge_witness(d, o, &creds, &probes, &told, c, k),
+        Proposal::Witness(k) => judge_witness(d, o, &creds, &probes, &told, c, k, rounds),
         Proposal::Proof(k) => judge_lines(d, o, &creds, &probes, &told, c, k),
     }
 }

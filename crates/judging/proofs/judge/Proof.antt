@@ -18,14 +18,15 @@ enum-known-o : tie.Need-enum-known-o
 enum-known-o c = search needs
 
 judge-with-requires : tie.Need-judge-with-requires
-judge-with-requires c κs =
-    let a = c .before .before .before .before .before .before .args in
-    dossier-sound (a .dossier .now) (c .before .before .before .dossier .ensures) (c .before .o .given .1)
+judge-with-requires c κs = dossier-sound (c .before .before .before .before .before .before .before .before .args .dossier .now) (c .before .before .before .before .dossier .ensures) (c .before .before .o .given .1)
 
 returns : tie.Need-returns
 returns c =
-    let a = c .before .before .before .before .before .before .before .args in
-    judge-refused (a .dossier .now) (a .certificate .now) (dossier-refused (a .dossier .now) (c .before .before .before .before .dossier .ensures) (c .before .before .e .given .1)) (c .refused .ensures)
+    let a = c .before .before .before .before .before .before .before .before .args in
+    judge-refused (a .dossier .now) (a .certificate .now) (a .rounds .now) (dossier-refused (a .dossier .now) (c .before .before .before .before .dossier .ensures) (c .before .before .e .given .1)) (c .refused .ensures)
+
+same-length : tie.Need-same-length
+same-length c = search needs
 
 returns-2 : tie.Need-returns-2
 returns-2 c = search needs
@@ -40,4 +41,5 @@ judge-spec =
     enum-known-o
     judge-with-requires
     returns
+    same-length
     returns-2)

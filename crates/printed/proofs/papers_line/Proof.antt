@@ -1,8 +1,15 @@
--- `printed::papers_line` meets its contract: the line of what the judge replies.
-use mathlib.Core.Path.{sym}
+-- `printed::papers_line` meets its contract: the line of what the judge replies, with a table of 64 words lent to it.
+use mathlib.Core.Path.{sym, ap, _∙_}
 use borrow.Author.Needs.{needs}
+use Rattle.judging.specs.Judge.{judgeOf}
 use Rattle.printed.proofs.papers_line.Statement.{statement}
 use Rattle.printed.proofs.papers_line.Tie as tie
+
+lent-requires : tie.Need-lent-requires
+lent-requires c κs = search needs
+
+slice-aggregate-judge : tie.Need-slice-aggregate-judge
+slice-aggregate-judge c = search needs
 
 judge-requires : tie.Need-judge-requires
 judge-requires c κs = search needs
@@ -14,7 +21,11 @@ same-length : tie.Need-same-length
 same-length c = search needs
 
 returns : tie.Need-returns
-returns c = rw (sym (c .before .before .before .before .judge .ensures)) (c .before .before .line .ensures)
+returns c =
+    let a = c .before .before .before .before .before .before .before .before .before .before .before .args in
+    let e = c .before .before .before .before .before .judge .ensures .0 ∙ ap (judgeOf (a .dossier .now) (a .certificate .now)) (sym (c .before .before .before .before .before .before .before .lent .ensures)) in
+    rw (sym e) (c .before .before .line .ensures)
 
 pub papers-line-spec : {M : Type 1} → statement M
-papers-line-spec = tie.close (tie.spec judge-requires line-requires same-length returns)
+papers-line-spec =
+    tie.close (tie.spec lent-requires slice-aggregate-judge judge-requires line-requires same-length returns)

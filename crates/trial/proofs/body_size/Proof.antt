@@ -2,7 +2,7 @@
 use native.Mathlib.Omega.{arith}
 use mathlib.Core.Path.{sym}
 use Rattle.trial.specs.Case.{sizeOf}
-use Rattle.trial.proofs.Cases.{judge-is, answers-is, shown-is, bytes-is}
+use Rattle.trial.proofs.Cases.{judge-is, answers-is, shown-is, bytes-is, rounds-is}
 use borrow.Author.Needs.{needs}
 use Rattle.trial.proofs.body_size.Statement.{statement}
 use Rattle.trial.proofs.body_size.Tie as tie
@@ -40,6 +40,15 @@ enum-known-case-4 c = search needs
 add-result-3 : tie.Need-add-result-3
 add-result-3 c = omega (arith, bytes-is (c .before .before .before .pre) (c .before .case4 .given .1))
 
+enum-known-case-5 : tie.Need-enum-known-case-5
+enum-known-case-5 c = search needs
+
+add-result-4 : tie.Need-add-result-4
+add-result-4 c = omega (arith, rounds-is (c .before .before .before .pre) (c .before .case5 .given .1))
+
+mul-result-4 : tie.Need-mul-result-4
+mul-result-4 c = omega (arith, rounds-is (c .before .before .before .pre) (c .before .case5 .given .1))
+
 returns : tie.Need-returns
 unfolding sizeOf
 returns c = rw (c .enum-told .given .1)
@@ -56,6 +65,9 @@ returns-4 c = sym (shown-is (c .before .before .before .pre) (c .before .case3 .
 returns-5 : tie.Need-returns-5
 returns-5 c = sym (bytes-is (c .before .before .before .pre) (c .before .case4 .given .1) .1)
 
+returns-6 : tie.Need-returns-6
+returns-6 c = sym (rounds-is (c .before .before .before .pre) (c .before .case5 .given .1) .2)
+
 pub body-size-spec : {M : Type 1} → statement M
 body-size-spec =
     tie.close
@@ -71,8 +83,12 @@ body-size-spec =
     mul-result-3
     enum-known-case-4
     add-result-3
+    enum-known-case-5
+    add-result-4
+    mul-result-4
     returns
     returns-2
     returns-3
     returns-4
-    returns-5)
+    returns-5
+    returns-6)

@@ -3,8 +3,8 @@ use native.Mathlib.Omega.{arith}
 use mathlib.Core.Path.{sym, _∙_}
 use lib.Seq.{length-take-le}
 use Rattle.text.proofs.Put.{wrote-is}
-use Rattle.trial.proofs.Cases.{judge-is, answers-is, shown-is, bytes-is}
-use Rattle.trial.proofs.Lines.{judge-line, answers-line, shown-line, bytes-line, bad-line}
+use Rattle.trial.proofs.Cases.{judge-is, answers-is, shown-is, bytes-is, rounds-is}
+use Rattle.trial.proofs.Lines.{judge-line, answers-line, shown-line, bytes-line, rounds-line, bad-line}
 use borrow.Author.Needs.{needs}
 use Rattle.trial.proofs.case_line.Statement.{statement}
 use Rattle.trial.proofs.case_line.Tie as tie
@@ -60,6 +60,21 @@ slice-aggregate-stdin-line c = sym (length-take-le (c .before .before .case4 .gi
 stdin-line-requires : tie.Need-stdin-line-requires
 stdin-line-requires c κs = search needs
 
+enum-known-case-5 : tie.Need-enum-known-case-5
+enum-known-case-5 c = search needs
+
+slice-relend-prefix-rounds-at : tie.Need-slice-relend-prefix-rounds-at
+slice-relend-prefix-rounds-at c = omega (arith, rounds-is (c .before .before .before .before .before .before .before .before .before .before .before .before .pre .0) (c .before .before .case5 .given .1), c .before .before .before .before .before .before .before .before .before .before .before .before .pre .2 .forTable)
+
+slice-aggregate-rounds-at : tie.Need-slice-aggregate-rounds-at
+slice-aggregate-rounds-at c = sym (length-take-le (c .before .before .before .case5 .given .0 .1 .0) (c .before .before .before .before .before .before .before .before .before .before .before .before .before .args .table .now) (omega (arith, rounds-is (c .before .before .before .before .before .before .before .before .before .before .before .before .before .pre .0) (c .before .before .before .case5 .given .1), c .before .before .before .before .before .before .before .before .before .before .before .before .before .pre .2 .forTable)))
+
+rounds-at-requires : tie.Need-rounds-at-requires
+rounds-at-requires c κs =
+    let f = rounds-is (c .before .before .before .before .before .before .before .before .before .before .before .before .before .before .pre .0) (c .before .before .before .before .case5 .given .1) in
+    let e = length-take-le (c .before .before .before .before .case5 .given .0 .1 .0) (c .before .before .before .before .before .before .before .before .before .before .before .before .before .before .args .table .now) (omega (arith, f, c .before .before .before .before .before .before .before .before .before .before .before .before .before .before .pre .2 .forTable)) in
+    (omega (arith, f, c .before .before .before .before .before .before .before .before .words .kept .1 .0, c .before .before .before .before .before .before .before .before .before .before .before .before .before .before .pre .2 .forWords), omega (arith, e, f, c .before .before .before .before .before .before .before .before .before .before .before .before .before .before .pre .2 .forLine))
+
 same-length : tie.Need-same-length
 same-length c = search needs
 
@@ -114,6 +129,20 @@ same-length-11 c = search needs
 returns-5 : tie.Need-returns-5
 returns-5 c = wrote-is (c .before .before .before .before .before .before .before .before .before .before .before .before .before .before .before .before .before .before .before .args .out .now) _ (c .before .before .before .before .stdin-line .ensures .0, c .before .before .before .before .stdin-line .ensures .1) (bytes-line (c .before .before .before .before .before .before .before .before .before .before .before .before .before .before .before .before .before .before .before .args .body .now) (c .before .before .before .before .before .before .before .before .before .case4 .given .1))
 
+same-length-12 : tie.Need-same-length-12
+same-length-12 c = search needs
+
+same-length-13 : tie.Need-same-length-13
+same-length-13 c = search needs
+
+same-length-14 : tie.Need-same-length-14
+same-length-14 c = search needs
+
+returns-6 : tie.Need-returns-6
+returns-6 c =
+    let f = rounds-is (c .before .before .before .before .before .before .before .before .before .before .before .before .before .before .before .before .before .before .before .pre .0) (c .before .before .before .before .before .before .before .before .before .case5 .given .1) in
+    wrote-is (c .before .before .before .before .before .before .before .before .before .before .before .before .before .before .before .before .before .before .before .args .out .now) _ (c .before .before .before .before .rounds-at .ensures) (rounds-line (c .before .before .before .before .before .before .before .before .before .before .before .before .before .before .before .before .before .before .before .args .body .now) (c .before .before .before .before .before .before .before .before .before .before .before .before .before .before .before .before .before .before .before .args .words .now) (c .before .before .before .before .before .before .before .before .before .before .before .before .before .words .ensures) (c .before .before .before .before .before .before .before .before .before .before .before .before .before .before .before .before .before .before .before .pre .2 .forWords) (c .before .before .before .before .before .before .before .before .before .before .before .before .before .before .before .before .before .before .before .args .table .now) (c .before .before .before .before .before .before .before .before .before .case5 .given .1) (f .1) (c .before .before .before .before .before .before .before .before .before .before .before .before .before .before .before .before .before .before .before .pre .1 ∙ f .2) (omega (arith, f, c .before .before .before .before .before .before .before .before .before .before .before .before .before .before .before .before .before .before .before .pre .2 .forTable)))
+
 pub case-line-spec : {M : Type 1} → statement M
 case-line-spec =
     tie.close
@@ -134,6 +163,10 @@ case-line-spec =
     enum-known-case-4
     slice-aggregate-stdin-line
     stdin-line-requires
+    enum-known-case-5
+    slice-relend-prefix-rounds-at
+    slice-aggregate-rounds-at
+    rounds-at-requires
     same-length
     same-length-2
     returns
@@ -149,4 +182,8 @@ case-line-spec =
     returns-4
     same-length-10
     same-length-11
-    returns-5)
+    returns-5
+    same-length-12
+    same-length-13
+    same-length-14
+    returns-6)

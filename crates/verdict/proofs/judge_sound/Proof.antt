@@ -2,6 +2,7 @@
 use Rattle.evaluation.specs.Which.{WhichFits}
 use Rattle.lines.proofs.Tables.{creds-filled, probes-filled}
 use Rattle.verdict.proofs.Tables.{creds-fit, probes-fit, told-filled, witness-there, proof-there, witness-judged, proof-judged}
+use mathlib.Core.Path.{refl}
 use borrow.Author.Needs.{needs}
 use Rattle.verdict.proofs.judge_sound.Statement.{statement}
 use Rattle.verdict.proofs.judge_sound.Tie as tie
@@ -11,7 +12,7 @@ slice-aggregate-starts c = search needs
 
 starts-requires : tie.Need-starts-requires
 starts-requires c κs =
-    let start = c .before .before .before in
+    let start = c .before .before .before .before in
     let a = start .args in
     (creds-fit (a .d .now) (a .o) (start .pre .0), start .pre .0 .fewCreds)
 
@@ -20,7 +21,7 @@ slice-aggregate-starts-2 c = search needs
 
 starts-requires-2 : tie.Need-starts-requires-2
 starts-requires-2 c κs =
-    let start = c .before .before .before .before .before .before in
+    let start = c .before .before .before .before .before .before .before in
     let a = start .args in
     (probes-fit (a .d .now) (a .o) (start .pre .0), start .pre .0 .few)
 
@@ -36,7 +37,7 @@ slice-aggregate-answers-3 c = search needs
 answers-requires : tie.Need-answers-requires
 unfolding WhichFits
 answers-requires c κs =
-    let start = c .before .before .before .before .before .before .before .before .before .before .before in
+    let start = c .before .before .before .before .before .before .before .before .before .before .before .before in
     let a = start .args in
     (record { laid = start .pre .0; starts = creds-filled (a .d .now) (a .o) _ (c .before .before .before .before .before .before .before .starts .ensures) (start .pre .0 .fewCreds); witness = tt }, probes-filled (a .d .now) (a .o) _ (c .before .before .before .before .starts2 .ensures) (start .pre .0 .few), start .pre .0 .few)
 
@@ -55,9 +56,9 @@ slice-aggregate-judge-witness-3 c = search needs
 judge-witness-requires : tie.Need-judge-witness-requires
 unfolding WhichFits
 judge-witness-requires c κs =
-    let start = c .before .before .before .before .before .before .before .before .before .before .before .before .before .before .before .before .before .before .before in
+    let start = c .before .before .before .before .before .before .before .before .before .before .before .before .before .before .before .before .before .before .before .before .before in
     let a = start .args in
-    (record { laid = start .pre .0; starts = creds-filled (a .d .now) (a .o) _ (c .before .before .before .before .before .before .before .before .before .before .before .before .before .before .before .starts .ensures) (start .pre .0 .fewCreds); witness = witness-there (a .o .atoms) (a .c .now) (c .before .before .before .before .proposal .given .1) (start .pre .1) }, probes-filled (a .d .now) (a .o) _ (c .before .before .before .before .before .before .before .before .before .before .before .before .starts2 .ensures) (start .pre .0 .few), told-filled (a .d .now) (a .o) _ (c .before .before .before .before .before .before .before .answers .ensures) (start .pre .0 .few))
+    (record { laid = start .pre .0; starts = creds-filled (a .d .now) (a .o) _ (c .before .before .before .before .before .before .before .before .before .before .before .before .before .before .before .before .starts .ensures) (start .pre .0 .fewCreds); witness = witness-there (a .o .atoms) (a .c .now) (c .before .before .before .before .before .proposal .given .1) (start .pre .1) }, probes-filled (a .d .now) (a .o) _ (c .before .before .before .before .before .before .before .before .before .before .before .before .before .starts2 .ensures) (start .pre .0 .few), told-filled (a .d .now) (a .o) _ (c .before .before .before .before .before .before .before .before .answers .ensures) (start .pre .0 .few), start .pre .2)
 
 enum-known-proposal-2 : tie.Need-enum-known-proposal-2
 enum-known-proposal-2 c = search needs
@@ -73,20 +74,23 @@ slice-aggregate-judge-lines-3 c = search needs
 
 judge-lines-requires : tie.Need-judge-lines-requires
 judge-lines-requires c κs =
-    let start = c .before .before .before .before .before .before .before .before .before .before .before .before .before .before .before .before .before .before .before in
+    let start = c .before .before .before .before .before .before .before .before .before .before .before .before .before .before .before .before .before .before .before .before in
     let a = start .args in
     let t = proof-there (a .o .atoms) (a .c .now) (c .before .before .before .before .proposal2 .given .1) (start .pre .1) in
     (start .pre .0, creds-filled (a .d .now) (a .o) _ (c .before .before .before .before .before .before .before .before .before .before .before .before .before .before .before .starts .ensures) (start .pre .0 .fewCreds), probes-filled (a .d .now) (a .o) _ (c .before .before .before .before .before .before .before .before .before .before .before .before .starts2 .ensures) (start .pre .0 .few), told-filled (a .d .now) (a .o) _ (c .before .before .before .before .before .before .before .answers .ensures) (start .pre .0 .few), t .0, t .1, t .2)
 
+same-length : tie.Need-same-length
+same-length c = search needs
+
 returns : tie.Need-returns
 returns c =
-    let a = c .before .before .before .before .before .before .before .before .before .before .before .before .before .before .before .before .before .before .before .before .args in
-    witness-judged (a .d .now) (a .o) (a .c .now) (c .before .before .before .before .before .proposal .given .1) (c .judge-witness .ensures)
+    let a = c .before .before .before .before .before .before .before .before .before .before .before .before .before .before .before .before .before .before .before .before .before .before .before .before .args in
+    witness-judged (a .d .now) (a .o) (a .c .now) (c .before .before .before .before .before .before .before .before .proposal .given .1) (c .before .before .judge-witness .ensures)
 
 returns-2 : tie.Need-returns-2
 returns-2 c =
-    let a = c .before .before .before .before .before .before .before .before .before .before .before .before .before .before .before .before .before .before .before .before .args in
-    proof-judged (a .d .now) (a .o) (a .c .now) (c .before .before .before .before .before .proposal2 .given .1) (c .judge-lines .ensures)
+    let a = c .before .before .before .before .before .before .before .before .before .before .before .before .before .before .before .before .before .before .before .before .before .args in
+    proof-judged (a .d .now) (a .o) (a .c .now) (c .before .before .before .before .before .proposal2 .given .1) (c .judge-lines .ensures) refl
 
 pub judge-sound-spec : {M : Type 1} → statement M
 judge-sound-spec =
@@ -110,5 +114,6 @@ judge-sound-spec =
     slice-aggregate-judge-lines-2
     slice-aggregate-judge-lines-3
     judge-lines-requires
+    same-length
     returns
     returns-2)
