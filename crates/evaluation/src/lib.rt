@@ -220,7 +220,7 @@ fn one_round(
     adds(table, round)
 }
 
-// For each atom the number of the round that first adds it, 0 if none does. It stops at a round that adds none.
+// The rounds, on a table with no atoms: each atom gets the number of the round that first adds it. It stops at a round that adds none.
 fn run(d: &[u16], o: Layout, creds: &[usize], w: &[u16], which: Which, e: EntryAt, table: &mut [u8])
     requires { ⌜ Sources (now d) o (now creds) (now w) which e × (now table ≡ replicate (o .atoms) 0) ⌝ }
     ensures { λ _. ⌜ now (table .exit) ≡ rows (firstRound (joinedAt (now (d .entry)) o (now (w .entry)) which e)) (o .atoms) ⌝ }
@@ -241,7 +241,7 @@ fn none() -> [u8; 64]
     [0u8; 64]
 }
 
-// The same numbers; and 0 beyond the atoms.
+// For each atom the number of the round that first adds it, 0 if none does; and 0 beyond the atoms.
 fn first_rounds(
     d: &[u16],
     o: Layout,
