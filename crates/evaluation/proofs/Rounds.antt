@@ -16,7 +16,7 @@ use Rattle.meaning.proofs.Tests.{cases, clash, is-refl, is→≡, not-opposite,
 use Rattle.meaning.proofs.Rounds.{rounds-holds, stop-early}
 use Rattle.meaning.proofs.First.{after-more, first-none, first-new, first-same, first-there, first-round}
 use Rattle.promise.specs.Place.{rows}
-use Rattle.promise.proofs.Place.{rows-length, rows-get, rows-are}
+use Rattle.promise.proofs.Place.{rows-length, rows-get, rows-are, rows-same}
 use Rattle.evaluation.specs.Table.{has, before, fireOne, fireAll}
 use Rattle.evaluation.proofs.Firing.{fire-length, fireAll-length}
 
@@ -202,11 +202,8 @@ module _ (n : ℕ) (P : Policy) (f : Below n P) where
       (λ a h. fireAll-word n k (after P k) P t f (omega arith) (λ b i. before-after P k t b (at b i)) a h ∙ ap (λ (x : ℕ). first x (any (λ (c : Clause). a is c .head and all (after P k) (c .body)) P) (suc k)) (at a h) ∙ first-next P k a _ refl))
 
   -- as many rounds as give what holds
-  numbers-all : (k : ℕ) {t : List ℕ} → t ≡ rows (firstOf P k) n → ((a : ℕ) → a < n → firstOf P k a ≡ firstRound P a) → t ≡ rows (firstRound P) n
-  numbers-all k {t} e h = e ∙ rows-are (firstRound P) n (rows (firstOf P k) n) (rows-length (firstOf P k) n) (λ a l. rows-get (firstOf P k) n a l ∙ h a l)
-
   pub numbers-last : (k : ℕ) {t : List ℕ} → t ≡ rows (firstOf P k) n → n ≤ k → t ≡ rows (firstRound P) n
-  numbers-last k e le = numbers-all k e (λ a l. sym (first-round P a k (rounds-holds n k P (λ c m. f c m .0) le a)))
+  numbers-last k e le = e ∙ rows-same _ _ n (λ a l. sym (first-round P a k (rounds-holds n k P (λ c m. f c m .0) le a)))
 
   -- a round that adds no atom: none has its number
   module _ (k : ℕ) {t : List ℕ} (e : t ≡ rows (firstOf P (k + 1)) n) (none : any (λ x. x is (k + 1)) t ≡ false) where
@@ -228,5 +225,5 @@ module _ (n : ℕ) (P : Policy) (f : Below n P) where
     pub numbers-stop : t ≡ rows (firstRound P) n
     numbers-stop =
         let one : k + 1 ≡ suc k = omega arith in
-        numbers-all (k + 1) e
+        e ∙ rows-same _ _ n
         (λ a l. ap (λ (j : ℕ). firstOf P j a) one ∙ first-same P a (suc k) k (still a l) ∙ sym (first-round P a k (stop-early P k (λ c m. still (c .head) (f c m .0)) a)))

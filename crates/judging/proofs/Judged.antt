@@ -1,7 +1,7 @@
 -- From the code's findings to the replies of the two entries.
-use Prim.Native.Nat.{ℕ, zero, suc, _<_, _≤_}
+use Prim.Native.Nat.{ℕ, _<_, _≤_}
 use mathlib.Core.Path.{_≡_, refl, sym, ap, ap₂, _∙_, subst}
-use mathlib.Core.List.{List, [], _∷_, _++_}
+use mathlib.Core.List.{List, _++_}
 use mathlib.Core.Option.{Option}
 use native.Mathlib.Omega.{arith}
 use lib.ListN.{length, drop}
@@ -16,7 +16,7 @@ use Rattle.promise.specs.Formula.{entry}
 use Rattle.promise.specs.Layout.{layoutOf, proposalOf, dossierAt, certificateAt}
 use Rattle.promise.specs.declared.Layout.{Layout}
 use Rattle.promise.specs.declared.Proposal.{Proposal}
-use Rattle.promise.proofs.Place.{many-at}
+use Rattle.promise.proofs.Place.{many-at, rows-same}
 use Rattle.dossier.specs.Read.{dossier}
 use Rattle.certificate.specs.Read.{certificate}
 use Rattle.reply.specs.Answer.{refused}
@@ -95,11 +95,6 @@ Kept d t r u = (r ≡ answersOf d t) × (u ≡ tableAfter d t)
 pub answers-refused : (d t : List ℕ) {e p w : ℕ} → dossier d ≡ bad e p w → Kept d t (Refused e p w) t
 unfolding answersOf tableAfter countOf tableOf
 answers-refused d t h = (ap (λ (x : Out Dossier). countOf x t) (sym h), ap (λ (x : Out Dossier). tableOf x t) (sym h))
-
-rows-same : (f g : ℕ → ℕ) (k : ℕ) → ((j : ℕ) → j < k → f j ≡ g j) → rows f k ≡ rows g k
-unfolding rows
-rows-same f g zero h = refl
-rows-same f g (suc k) h = ap₂ {C = List ℕ} (λ l x. l ++ (x ∷ [])) (rows-same f g k (λ j i. h j (omega arith))) (h k (omega arith))
 
 module _ (d t : List ℕ) (o : Layout) (s : Sound d o) where
   words-are : (j : ℕ) → j < o .nprobes → answerWord d o j ≡ wordTo (s .paper) j

@@ -1,6 +1,6 @@
 -- The number of the round that first adds an atom.
 use mathlib.Core.Path.{_≡_, refl, sym, _∙_}
-use mathlib.Core.Bool.{Bool, true, false, not, false≢true}
+use mathlib.Core.Bool.{true, false, not, false≢true}
 use mathlib.Core.List.{List·Memᴰ·not-nil}
 use mathlib.Core.Option.{Option, none, some}
 use mathlib.Core.Logic.{_⊎_, inl, inr, _↔_}
@@ -8,6 +8,7 @@ use Prim.Native.Nat.{ℕ, zero, suc, _+_, _≤_, _<_}
 use native.Mathlib.Omega.{arith}
 use native.Mathlib.Decide.{decLt}
 use lib.ListN.{length}
+use borrow.Author.Tests.{not-false}
 use Rattle.meaning.specs.Tests.{_∈_, lowest}
 use Rattle.meaning.specs.Policy.{Clause, Policy, round, after, Holds, holds, orZero, firstOf, firstRound}
 use Rattle.meaning.specs.Demands.{Lowest, FirstAdds, FirstRounds}
@@ -23,10 +24,6 @@ after-more P a j (suc k) h e = go (decLt k j) (λ l. after-more P a j k l e)
     go : Dec (k < j) → (j ≤ k → after P k a ≡ true) → round P (after P k) a ≡ true
     go (yes l) ih = let z : j ≡ suc k = omega arith in rw z at e
     go (no l) ih = round-keeps P (after P k) a (ih (omega arith))
-
-not-false : (b : Bool) → not b ≡ false → b ≡ true
-not-false true h = refl
-not-false false h = sym h
 
 -- r is the least of the first k rounds that has a, or 0 where none of them has it
 unfoldable First : Policy → ℕ → ℕ → ℕ → Type 0

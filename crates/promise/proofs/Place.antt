@@ -115,6 +115,9 @@ rows-get f k j h = ap (λ (l : List ℕ). getD l j 0) (sym (append-nil (rows f k
 pub rows-are : (f : ℕ → ℕ) (k : ℕ) (t : List ℕ) → length t ≡ k → ((j : ℕ) → j < k → getD t j 0 ≡ f j) → t ≡ rows f k
 rows-are f k t l h = ext-getD 0 t (rows f k) (l ∙ sym (rows-length f k)) (λ j i. h j (omega arith) ∙ sym (rows-get f k j (omega arith)))
 
+pub rows-same : (f g : ℕ → ℕ) (k : ℕ) → ((j : ℕ) → j < k → f j ≡ g j) → rows f k ≡ rows g k
+rows-same f g k h = rows-are g k (rows f k) (rows-length f k) (λ j i. rows-get f k j i ∙ h j i)
+
 -- entry j of a filled table, and its length
 pub filled-at : (f : ℕ → ℕ) (k j : ℕ) (old : List ℕ) → j < k → getD (filled f k old) j 0 ≡ f j
 unfolding filled
