@@ -83,6 +83,20 @@ fn operand_at(s: &[u16], n: usize, lp: usize, end: usize, d: usize, at: usize) -
     }
 }
 
+// The whole formula, at most 16 deep. Most are an atom, for which nothing has to be walked.
+fn whole_at(s: &[u16], n: usize, lp: usize, end: usize, at: usize) -> Step
+    requires { ⌜ end ≤ length (now s) ⌝ }
+    ensures { λ r. ⌜ r ≡ asStep (operand n lp end 16 (now (s .entry)) at) ⌝ }
+{
+    if at < end {
+        let x = s[at] as usize;
+        if x < n {
+            return Step::Next(at + 1);
+        }
+    }
+    operand_at(s, n, lp, end, 16, at)
+}
+
 // A formula: its length, and exactly so many words.
 fn formula_at(s: &[u16], at: usize, n: usize) -> Step
     ensures { λ r. ⌜ r ≡ asStep (formula n (now (s .entry)) at) ⌝ }
@@ -95,7 +109,7 @@ fn formula_at(s: &[u16], at: usize, n: usize) -> Step
                 return Step::Refused(1, s.len(), 0);
             }
             let end = p + len;
-            match operand_at(s, n, at, end, 16, p) {
+            match whole_at(s, n, at, end, p) {
                 Step::Refused(e, q, w) => Step::Refused(e, q, w),
                 Step::Next(q) => {
                     if q == end {

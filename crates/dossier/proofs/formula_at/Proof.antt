@@ -50,8 +50,8 @@ add-end c =
     let r = readWord _ _ _ _ _ (k .before .before .before .word-in .ensures) (k .before .len .given .1) in
     omega (arith, r .here)
 
-operand-at-requires : tie.Need-operand-at-requires
-operand-at-requires c κs =
+whole-at-requires : tie.Need-whole-at-requires
+whole-at-requires c κs =
     let k = c .before in
     let a = k .before .before .before .before .before .args in
     let r = readWord _ _ _ _ _ (k .before .before .before .word-in .ensures) (k .before .len .given .1) in
@@ -74,7 +74,7 @@ returns-3 c =
     let a = k .before .before .before .before .before .args in
     let r = readWord _ _ _ _ _ (k .before .before .before .word-in .ensures) (k .before .len .given .1) in
     let h : a .at + 1 + k .before .len .given .0 .0 ≤ length (now (a .s)) = omega (arith, r .here) in
-    sym (step-bad (simp (r .is, le-leb _ _ h, refused _ (c .before .before .before .operand-at .ensures) (c .before .e2 .given .1))))
+    sym (step-bad (simp (r .is, le-leb _ _ h, refused _ (c .before .before .before .whole-at .ensures) (c .before .e2 .given .1))))
 
 returns-4 : tie.Need-returns-4
 unfolding formula
@@ -83,7 +83,7 @@ returns-4 c =
     let a = k .before .before .before .before .before .args in
     let r = readWord _ _ _ _ _ (k .before .before .before .word-in .ensures) (k .before .len .given .1) in
     let h : a .at + 1 + k .before .len .given .0 .0 ≤ length (now (a .s)) = omega (arith, r .here) in
-    let v = passed _ (c .before .before .before .before .operand-at .ensures) (c .before .before .q .given .1) in
+    let v = passed _ (c .before .before .before .before .whole-at .ensures) (c .before .before .q .given .1) in
     sym (step-got {v = v .0} (simp (r .is, le-leb _ _ h, v .1, eq-eqb _ _ (c .if2 .taken))))
 
 returns-5 : tie.Need-returns-5
@@ -93,7 +93,7 @@ returns-5 c =
     let a = k .before .before .before .before .before .args in
     let r = readWord _ _ _ _ _ (k .before .before .before .word-in .ensures) (k .before .len .given .1) in
     let h : a .at + 1 + k .before .len .given .0 .0 ≤ length (now (a .s)) = omega (arith, r .here) in
-    sym (step-bad (simp (r .is, le-leb _ _ h, (passed _ (c .before .before .before .before .operand-at .ensures) (c .before .before .q .given .1)) .1, ne-eqb _ _ (c .if2 .left))))
+    sym (step-bad (simp (r .is, le-leb _ _ h, (passed _ (c .before .before .before .before .whole-at .ensures) (c .before .before .q .given .1)) .1, ne-eqb _ _ (c .if2 .left))))
 
 pub formula-at-spec : {M : Type 1} → statement M
 formula-at-spec =
@@ -106,7 +106,7 @@ formula-at-spec =
     sub-if1
     returns
     add-end
-    operand-at-requires
+    whole-at-requires
     enum-known-e-2
     enum-known-q
     returns-2
