@@ -307,7 +307,7 @@ fn truth_at(s: &[u16], at: usize, deep: usize, table: &[u8]) -> Truth
     }
 }
 
-// The answer of the entry at p in a policy.
+// The answer of the entry at p in a policy. Most formulas are an atom, for which nothing has to be walked.
 pub fn answer_at(d: &[u16], o: Layout, creds: &[usize], w: &[u16], which: Which, p: usize) -> bool
     requires { ⌜ Ready (now d) o (now creds) (now w) which × EntryFits (o .atoms) (o .ncreds) (now d) p ⌝ }
     ensures { λ r. ⌜ r ≡ answerOf (now (d .entry)) o (now (w .entry)) which p ⌝ }
@@ -316,6 +316,10 @@ pub fn answer_at(d: &[u16], o: Layout, creds: &[usize], w: &[u16], which: Which,
     let f = e.formula;
     let n = o.atoms;
     let table = first_rounds(d, o, creds, w, which, e);
+    let a = promise::word(d, f);
+    if a < 256 {
+        return is_there(&table[..n], a);
+    }
     let v = truth_at(d, f, 16, &table[..n]);
     v.holds
 }
