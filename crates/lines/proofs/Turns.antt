@@ -7,10 +7,10 @@ use native.Mathlib.Omega.{arith}
 use lib.Dec.{eqb}
 use lib.ListN.{length, getD}
 use borrow.Author.Tests.{eq-eqb, ne-eqb, eqb-true, eqb-false}
-use Rattle.meaning.specs.Tests.{_is_, _or_, same, all, choose}
+use Rattle.meaning.specs.Tests.{_is_, _and_, _or_, same, all, choose}
 use Rattle.meaning.specs.Rules.{omit, others}
-use Rattle.meaning.proofs.Tests.{clash}
-use Rattle.promise.specs.Place.{part}
+use Rattle.meaning.proofs.Tests.{and-both, clash, is→≡}
+use Rattle.promise.specs.Place.{Kind, part, many}
 use Rattle.promise.proofs.Place.{part-none, part-cons}
 use Rattle.promise.proofs.Step.{same-on, same-not, same-short, omit-skip, omit-keep, others-first, others-on, others-all, all-on, all-not}
 use Rattle.lines.specs.Named.{takenOf}
@@ -113,3 +113,10 @@ module _ {A : Type 0} (P : A → Bool) {l m : List A} {v : A} (f : l ≡ v ∷ m
       go false z k =
           let n : x ≡ 0 → ⊥ = eqb-false _ _ z in
           all-not P (others-on f x (omega arith)) k
+
+-- one element alone leaves no others
+pub others-alone : {A : Type 0} (P : A → Bool) (K : Kind A) (ws : List ℕ) (p k i : ℕ) {b : Bool} → b ≡ (k is 1 and i is 0) → b ≡ true → all P (others (many K ws p k) i) ≡ true
+unfolding many others all
+others-alone P K ws p k i e h =
+    let r = and-both (sym e ∙ h) in
+    rw (is→≡ (r .0), is→≡ (r .1))

@@ -184,6 +184,13 @@ fn later(x: usize, left: usize) -> usize
     if x == 0 { left } else { x - 1 }
 }
 
+// Whether number i is the only literal of u, so that there are no others.
+fn alone(u: LineAt, i: usize) -> bool
+    ensures { λ r. ⌜ r ≡ (u .count is 1 and i is 0) ⌝ }
+{
+    if u.count == 1 { i == 0 } else { false }
+}
+
 // Whether each literal of u, but for number i, is one of v's.
 fn others_in(s: &[u16], v: LineAt, u: LineAt, i: usize) -> bool
     requires { ⌜ LiteralsFit (now s) v × LiteralsFit (now s) u ⌝ }
@@ -203,6 +210,17 @@ fn others_in(s: &[u16], v: LineAt, u: LineAt, i: usize) -> bool
         }
     }
     true
+}
+
+// Whether that is so of a, but for number i, and of b, but for number j.
+fn sides_in(s: &[u16], v: LineAt, a: LineAt, i: usize, b: LineAt, j: usize) -> bool
+    requires { ⌜ LiteralsFit (now s) v × LiteralsFit (now s) a × LiteralsFit (now s) b ⌝ }
+    ensures { λ r. ⌜ r ≡ (all (isIn (literalsOf (now (s .entry)) v)) (others (literalsOf (now (s .entry)) a) i) and all (isIn (literalsOf (now (s .entry)) v)) (others (literalsOf (now (s .entry)) b) j)) ⌝ }
+{
+    if alone(a, i) || others_in(s, v, a, i) {
+        return alone(b, j) || others_in(s, v, b, j);
+    }
+    false
 }
 
 // Whether the atom b has a negative literal that shares with l.
@@ -764,9 +782,7 @@ fn resolve_holds(
     }
     if p.positive {
         if same_said(s, p, s, q) {
-            if others_in(s, v, a, i) {
-                return others_in(s, v, b, j);
-            }
+            return sides_in(s, v, a, i, b, j);
         }
     }
     false
