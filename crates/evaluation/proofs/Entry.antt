@@ -1,15 +1,16 @@
 -- An entry's answer and the rounds that first add each atom, from the table after 64 rounds.
-use Prim.Native.Nat.{ℕ, zero, suc, _<_, _≤_}
+use Prim.Native.Nat.{ℕ, zero, suc, _+_, _-_, _<_, _≤_}
 use mathlib.Core.Path.{_≡_, refl, sym, ap, ap₂, _∙_, subst}
-use mathlib.Core.Bool.{Bool, not}
+use mathlib.Core.Bool.{Bool, true, not}
 use mathlib.Core.List.{List, [], _∷_, _++_}
 use native.Mathlib.Omega.{arith}
 use lib.ListN.{length, getD, take, drop, replicate, length-replicate}
 use lib.Seq.{take-at}
-use Rattle.meaning.specs.Tests.{_∈_, _and_, _or_}
+use Rattle.meaning.specs.Tests.{_∈_, _and_, _or_, _is_, same}
 use Rattle.meaning.specs.Policy.{Clause, Policy, holds, firstRound}
 use Rattle.meaning.specs.Formula.{Formula, always, atom, neg, conj, disj, read, joined, given, truth}
 use Rattle.meaning.specs.Papers.{Marked, answer}
+use Rattle.meaning.proofs.Tests.{and-both, clash, is-refl, same→≡}
 use Rattle.promise.specs.Code.{bit}
 use Rattle.promise.specs.Form.{FormulaForm}
 use Rattle.promise.specs.Place.{many, place, Fit, Starts, rows, filled}
@@ -22,6 +23,7 @@ use Rattle.promise.proofs.Place.{fit-each, rows-length, rows-get, rows-are}
 use Rattle.evaluation.specs.Table.{has, inTable}
 use Rattle.evaluation.specs.Which.{policyAt, joinedAt, WhichFits, Sources, Ready}
 use Rattle.evaluation.specs.Answer.{answerOf, answerWord, roundOf}
+use Rattle.evaluation.specs.Held.{tableOf, Held, lastOf, readIn}
 use Rattle.evaluation.specs.declared.Which.{Which}
 use Rattle.evaluation.specs.declared.Which.the-variants.{Own, Tried}
 use Rattle.evaluation.proofs.Atoms.{BelowOne, own-below, tried-below, sent-below}
@@ -105,30 +107,75 @@ module _ {d : List ℕ} {o : Layout} {creds w : List ℕ} {which : Which} (ready
   J = joined (dossierAt d o .creds) (policyAt d o w which) (entryOf d (entryAt d p) .creds) []
 
   -- the table with the numbers
-  module _ {t : List ℕ} (found : t ≡ filled (firstRound (joinedAt d o w which e)) (o .atoms) (replicate 64 0)) where
+  module _ {t : List ℕ} (found : t ≡ tableOf d o w which e) where
     table-is : take (o .atoms) t ≡ rows (firstRound (joinedAt d o w which (entryAt d p))) (o .atoms)
+    unfolding tableOf
     table-is = first-part _ (o .atoms) _ found ∙ ap (λ (v : EntryAt). rows (firstRound (joinedAt d o w which v)) (o .atoms)) seen
 
     pub table-size : o .atoms ≡ length (take (o .atoms) t)
     table-size = sym (ap length table-is ∙ rows-length _ (o .atoms))
 
-    pub table-fits : FormulaFits (length (take (o .atoms) t)) 16 d (e .formula)
-    table-fits = subst (λ (j : ℕ). FormulaFits j 16 d (e .formula)) table-size (rw seen (fits .formula))
-
     has-is : (a : ℕ) → a < o .atoms → has (take (o .atoms) t) a ≡ holds J a
     unfolding joinedAt
     has-is a h = has-holds J (take (o .atoms) t) a (ap (λ (x : List ℕ). getD x a 0) table-is ∙ rows-get _ (o .atoms) a h)
 
-    pub answer-is : {b : Bool} → b ≡ read (inTable (take (o .atoms) t)) (formulaAt 16 d (e .formula)) → b ≡ answerOf d o w which p
-    unfolding answerOf answer
-    answer-is g =
-        g ∙ ap (λ (v : EntryAt). read (inTable (take (o .atoms) t)) (formulaAt 16 d (v .formula))) seen
-        ∙ truth-table (o .atoms) (take (o .atoms) t) (dossierAt d o .creds) (policyAt d o w which) (entryOf d (entryAt d p) .creds) has-is 16 (formulaAt 16 d (entryAt d p .formula)) (fits .form)
+    pub table-fits : FormulaFits (length (take (o .atoms) t)) 16 d (entryAt d p .formula)
+    table-fits = subst (λ (j : ℕ). FormulaFits j 16 d (entryAt d p .formula)) table-size (fits .formula)
+
+    pub answer-is : readIn d p (take (o .atoms) t) ≡ answerOf d o w which p
+    unfolding readIn answerOf answer
+    answer-is =
+        truth-table (o .atoms) (take (o .atoms) t) (dossierAt d o .creds) (policyAt d o w which) (entryOf d (entryAt d p) .creds) has-is 16 (formulaAt 16 d (entryAt d p .formula)) (fits .form)
 
     -- written to the start of a longer one
     pub rounds-are : (old : List ℕ) {u : List ℕ} → u ≡ take (o .atoms) t ++ drop (length (take (o .atoms) t)) old → u ≡ filled (roundOf d o w which p) (o .atoms) old
     unfolding filled roundOf
     rounds-are old g = g ∙ ap₂ (λ (x : List ℕ) (k : ℕ). x ++ drop k old) table-is (sym table-size)
+
+-- ---- the entry at p, whose view is e, and any table
+
+pub view-fits : (n p : ℕ) (d : List ℕ) {e : EntryAt} → e ≡ entryAt d p → FormulaFits n 16 d (entryAt d p .formula) → FormulaFits n 16 d (e .formula)
+view-fits n p d seen h = subst (λ (v : EntryAt). FormulaFits n 16 d (v .formula)) (sym seen) h
+
+pub read-view : (p : ℕ) (d : List ℕ) (t : List ℕ) {e : EntryAt} → e ≡ entryAt d p → read (inTable t) (formulaAt 16 d (e .formula)) ≡ readIn d p t
+unfolding readIn
+read-view p d t seen = ap (λ (v : EntryAt). read (inTable t) (formulaAt 16 d (v .formula))) seen
+
+-- ---- what is held from one entry to the next
+
+pub last-none : (t : List ℕ) (k : ℕ) → k ≡ 0 → lastOf t k ≡ 0
+unfolding lastOf
+last-none t k e = rw e
+
+pub last-some : (t : List ℕ) (k : ℕ) → (k ≡ 0 → ⊥) → lastOf t k ≡ getD t (k - 1) 0
+unfolding lastOf
+last-some t zero n = absurd (n refl)
+last-some t (suc k) n = ap (λ (j : ℕ). getD t j 0) (omega arith)
+
+-- at first nothing is held; after thing k of a table, which begins at p, what holds there is
+module _ (d : List ℕ) (o : Layout) (w : List ℕ) (which : Which) (t : List ℕ) where
+  pub held-none : (u : List ℕ) → Held d o w which (lastOf t 0) u
+  unfolding Held lastOf
+  held-none u z = absurd (z refl)
+
+  pub held-on : (k : ℕ) {u : List ℕ} → EntryFits (o .atoms) (o .ncreds) d (getD t k 0) → u ≡ tableOf d o w which (entryAt d (getD t k 0)) → Held d o w which (lastOf t (k + 1)) u
+  unfolding Held lastOf
+  held-on k fits e z =
+      let one : k + 1 ≡ suc k = omega arith in
+      rw one (fits, e)
+
+-- the same credentials give the same table
+alike-table : (d : List ℕ) (o : Layout) (w : List ℕ) (which : Which) (f e : EntryAt) → same (entryOf d f .creds) (entryOf d e .creds) ≡ true → tableOf d o w which f ≡ tableOf d o w which e
+unfolding tableOf joinedAt
+alike-table d o w which f e h = ap (λ (S : List ℕ). filled (firstRound (joined (dossierAt d o .creds) (policyAt d o w which) S [])) (o .atoms) (replicate 64 0)) (same→≡ h)
+
+pub held-alike : (d : List ℕ) (o : Layout) (w : List ℕ) (which : Which) (last p : ℕ) (t : List ℕ) {e : EntryAt} {b : Bool} → Held d o w which last t → e ≡ entryAt d p
+    → b ≡ (not (last is 0) and same (entryOf d (entryAt d last) .creds) (entryOf d e .creds)) → b ≡ true → t ≡ tableOf d o w which (entryAt d p)
+unfolding Held
+held-alike d o w which last p t held seen g h =
+    let r = and-both (sym g ∙ h) in
+    let there : last ≡ 0 → ⊥ = λ z. clash (r .0) (ap (λ (j : ℕ). not (j is 0)) z ∙ ap not (is-refl 0)) in
+    held there .1 ∙ alike-table d o w which _ _ (r .1) ∙ ap (tableOf d o w which) seen
 
 -- ---- probe j, through the table of starts
 

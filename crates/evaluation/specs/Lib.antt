@@ -1,4 +1,5 @@
 pub mod Table
 pub mod Which
 pub mod Answer
+pub mod Held
 pub mod Enough

@@ -3,22 +3,23 @@ use promise::ClauseAt;
 use promise::EntryAt;
 use promise::Layout;
 ghost use mathlib.Core.Path.{_≡_};
-ghost use mathlib.Core.Bool.{true};
+ghost use mathlib.Core.Bool.{true, not};
 ghost use mathlib.Core.List.{_++_};
 ghost use Prim.Native.Nat.{ℕ, _+_, _≤_, _<_};
-ghost use lib.ListN.{length, drop, replicate, set};
-ghost use Rattle.meaning.specs.Tests.{_∈_, _and_, _or_, _is_, all, any, choose};
+ghost use lib.ListN.{length, drop, replicate};
+ghost use Rattle.meaning.specs.Tests.{_∈_, _and_, _or_, _is_, same, all, any, choose};
 ghost use Rattle.meaning.specs.Policy.{firstRound};
 ghost use Rattle.meaning.specs.Formula.{read};
 ghost use Rattle.promise.specs.Code.{bit};
 ghost use Rattle.promise.specs.Place.{part, many, Fit, Starts, rows, filled};
-ghost use Rattle.promise.specs.Formula.{FormulaFits, formulaAt, formulaEnd, EntryFits, entry};
+ghost use Rattle.promise.specs.Formula.{FormulaFits, formulaAt, formulaEnd, entryAt, entryOf, EntryFits, entry};
 ghost use Rattle.promise.specs.Clause.{clauseAt, clauseOf, ClauseFits, credential, markedAt, markedOf, marked};
 ghost use Rattle.promise.specs.Layout.{Laid};
 ghost use Rattle.evaluation.specs.Table.{has, before, fireOne, fireAll, inTable};
 ghost use Rattle.evaluation.specs.Which.{kept, fireMarked, Fires, NamedFits, namedAt, named};
 ghost use Rattle.evaluation.specs.Which.{WhichFits, policyAt, joinedAt, Ready, Sources};
 ghost use Rattle.evaluation.specs.Answer.{answerOf, answerWord, roundOf};
+ghost use Rattle.evaluation.specs.Held.{tableOf, Held, lastOf, readIn};
 ghost use Rattle.evaluation.specs.declared.Which.the-variants.{Own};
 
 // The policy that is evaluated: the dossier's own, or its visible clauses with the certificate's so many.
@@ -251,7 +252,7 @@ fn first_rounds(
     e: EntryAt,
 ) -> [u8; 64]
     requires { ⌜ Sources (now d) o (now creds) (now w) which e ⌝ }
-    ensures { λ r. ⌜ r ≡ filled (firstRound (joinedAt (now (d .entry)) o (now (w .entry)) which e)) (o .atoms) (replicate 64 0) ⌝ }
+    ensures { λ r. ⌜ r ≡ tableOf (now (d .entry)) o (now (w .entry)) which e ⌝ }
 {
     let n = o.atoms;
     let mut table = none();
@@ -307,21 +308,63 @@ fn truth_at(s: &[u16], at: usize, deep: usize, table: &[u8]) -> Truth
     }
 }
 
-// The answer of the entry at p in a policy. Most formulas are an atom, for which nothing has to be walked.
+// The answer of the entry at p, by the table of what holds. Most formulas are an atom, for which nothing has to be walked.
+pub fn answer_in(d: &[u16], p: usize, table: &[u8]) -> bool
+    requires { ⌜ (entryAt (now d) p .next ≤ length (now d)) × FormulaFits (length (now table)) 16 (now d) (entryAt (now d) p .formula) ⌝ }
+    ensures { λ r. ⌜ r ≡ readIn (now (d .entry)) p (now (table .entry)) ⌝ }
+{
+    let e = promise::entry_at(d, p);
+    let f = e.formula;
+    let a = promise::word(d, f);
+    if a < 256 {
+        return is_there(table, a);
+    }
+    let v = truth_at(d, f, 16, table);
+    v.holds
+}
+
+// The answer of the entry at p in a policy.
 pub fn answer_at(d: &[u16], o: Layout, creds: &[usize], w: &[u16], which: Which, p: usize) -> bool
     requires { ⌜ Ready (now d) o (now creds) (now w) which × EntryFits (o .atoms) (o .ncreds) (now d) p ⌝ }
     ensures { λ r. ⌜ r ≡ answerOf (now (d .entry)) o (now (w .entry)) which p ⌝ }
 {
     let e = promise::entry_at(d, p);
-    let f = e.formula;
     let n = o.atoms;
     let table = first_rounds(d, o, creds, w, which, e);
-    let a = promise::word(d, f);
-    if a < 256 {
-        return is_there(&table[..n], a);
+    answer_in(d, p, &table[..n])
+}
+
+// Whether e has the credentials of the entry at `last`; 0 is no entry.
+fn alike(d: &[u16], last: usize, e: EntryAt) -> bool
+    requires { ⌜ ((last ≡ 0 → ⊥) → entryAt (now d) last .next ≤ length (now d)) × (e .creds + e .count ≤ length (now d)) ⌝ }
+    ensures { λ r. ⌜ r ≡ (not (last is 0) and same (entryOf (now (d .entry)) (entryAt (now (d .entry)) last) .creds) (entryOf (now (d .entry)) e .creds)) ⌝ }
+{
+    if last == 0 {
+        return false;
     }
-    let v = truth_at(d, f, 16, &table[..n]);
-    v.holds
+    let f = promise::entry_at(d, last);
+    promise::same_words(d, f.creds, f.count, d, e.creds, e.count)
+}
+
+// The table of what holds at the entry at p. `held` is that of the entry at `last`, and serves again if that has the same credentials.
+pub fn known(
+    d: &[u16],
+    o: Layout,
+    creds: &[usize],
+    w: &[u16],
+    which: Which,
+    last: usize,
+    held: [u8; 64],
+    p: usize,
+) -> [u8; 64]
+    requires { ⌜ Ready (now d) o (now creds) (now w) which × Held (now d) o (now w) which last held × EntryFits (o .atoms) (o .ncreds) (now d) p ⌝ }
+    ensures { λ r. ⌜ r ≡ tableOf (now (d .entry)) o (now (w .entry)) which (entryAt (now (d .entry)) p) ⌝ }
+{
+    let e = promise::entry_at(d, p);
+    if alike(d, last, e) {
+        return held;
+    }
+    first_rounds(d, o, creds, w, which, e)
 }
 
 // Writes the numbers to the start of the table, which is as long or longer; the words beyond stay.
@@ -363,21 +406,41 @@ pub fn word_of(a: bool) -> u16
     if a { 1 } else { 0 }
 }
 
-// Writes probe i's answer in the dossier's own policy to the table, in its place.
-fn answer_probe(
+// Where the last of the k things of the table begins; 0 if there is none.
+pub fn last_of(table: &[usize], k: usize) -> usize
+    requires { ⌜ k ≤ length (now table) ⌝ }
+    ensures { λ r. ⌜ r ≡ lastOf (now (table .entry)) k ⌝ }
+{
+    if k == 0 {
+        return 0;
+    }
+    table[k - 1]
+}
+
+// Writes every probe's answer in the dossier's own policy to the table. Answers the table of what holds at the last probe.
+fn answer_probes(
     d: &[u16],
     o: Layout,
     creds: &[usize],
     probes: &[usize],
     w: &[u16],
-    i: usize,
     table: &mut [u16],
-)
-    requires { ⌜ Ready (now d) o (now creds) (now w) Own × Starts (entry (o .atoms) (o .ncreds) .next (now d)) (o .probes) (o .nprobes) (now probes) × (i < o .nprobes) × (i < length (now table)) ⌝ }
-    ensures { λ _. ⌜ now (table .exit) ≡ set (now (table .entry)) i (answerWord (now (d .entry)) o i) ⌝ }
+) -> [u8; 64]
+    requires { ⌜ Ready (now d) o (now creds) (now w) Own × Starts (entry (o .atoms) (o .ncreds) .next (now d)) (o .probes) (o .nprobes) (now probes) × (o .nprobes ≤ length (now table)) ⌝ }
+    ensures { λ r. ⌜ (now (table .exit) ≡ filled (answerWord (now (d .entry)) o) (o .nprobes) (now (table .entry))) × Held (now (d .entry)) o (now (w .entry)) Own (lastOf (now (probes .entry)) (o .nprobes)) r ⌝ }
 {
-    let a = answer_at(d, o, creds, w, Which::Own, probes[i]);
-    table[i] = word_of(a);
+    let n = o.nprobes;
+    let m = o.atoms;
+    let mut held = none();
+    let mut i = 0;
+    while i < n {
+        let p = probes[i];
+        let t = known(d, o, creds, w, Which::Own, last_of(probes, i), held, p);
+        table[i] = word_of(answer_in(d, p, &t[..m]));
+        held = t;
+        i += 1;
+    }
+    held
 }
 
 // Every probe's answer in the dossier's own policy, 0 or 1, from the table's start; the words beyond stay.
@@ -392,10 +455,25 @@ pub fn answers(
     requires { ⌜ Ready (now d) o (now creds) (now w) Own × Starts (entry (o .atoms) (o .ncreds) .next (now d)) (o .probes) (o .nprobes) (now probes) × (o .nprobes ≤ length (now table)) ⌝ }
     ensures { λ _. ⌜ now (table .exit) ≡ filled (answerWord (now (d .entry)) o) (o .nprobes) (now (table .entry)) ⌝ }
 {
-    let n = o.nprobes;
-    let mut i = 0;
-    while i < n {
-        answer_probe(d, o, creds, probes, w, i, table);
-        i += 1;
-    }
+    answer_probes(d, o, creds, probes, w, table);
+}
+
+// The same, and answers the secret's answer in the dossier's own policy.
+pub fn own_answers(
+    d: &[u16],
+    o: Layout,
+    creds: &[usize],
+    probes: &[usize],
+    w: &[u16],
+    table: &mut [u16],
+) -> bool
+    requires { ⌜ Ready (now d) o (now creds) (now w) Own × Starts (entry (o .atoms) (o .ncreds) .next (now d)) (o .probes) (o .nprobes) (now probes) × (o .nprobes ≤ length (now table)) ⌝ }
+    ensures { λ r. ⌜ (now (table .exit) ≡ filled (answerWord (now (d .entry)) o) (o .nprobes) (now (table .entry))) × (r ≡ answerOf (now (d .entry)) o (now (w .entry)) Own (o .secret)) ⌝ }
+{
+    let held = answer_probes(d, o, creds, probes, w, table);
+    let last = last_of(probes, o.nprobes);
+    let p = o.secret;
+    let n = o.atoms;
+    let t = known(d, o, creds, w, Which::Own, last, held, p);
+    answer_in(d, p, &t[..n])
 }

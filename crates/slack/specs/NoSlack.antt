@@ -8,10 +8,14 @@ use Rattle.judging.proofs.judge.Reads as judging-judge
 use Rattle.judging.proofs.answers.Reads as judging-answers
 use Rattle.verdict.proofs.judge_sound.Reads as verdict-judge-sound
 use Rattle.lines.proofs.line_follows.Reads as lines-line-follows
+use Rattle.evaluation.proofs.answer_in.Reads as evaluation-answer-in
 use Rattle.evaluation.proofs.answer_at.Reads as evaluation-answer-at
+use Rattle.evaluation.proofs.known.Reads as evaluation-known
+use Rattle.evaluation.proofs.last_of.Reads as evaluation-last-of
 use Rattle.evaluation.proofs.rounds_at.Reads as evaluation-rounds-at
 use Rattle.evaluation.proofs.word_of.Reads as evaluation-word-of
 use Rattle.evaluation.proofs.answers.Reads as evaluation-answers
+use Rattle.evaluation.proofs.own_answers.Reads as evaluation-own-answers
 use Rattle.certificate.proofs.certificate.Reads as certificate-certificate
 use Rattle.dossier.proofs.dossier.Reads as dossier-dossier
 use Rattle.dossier.proofs.section_after.Reads as dossier-section-after
@@ -71,10 +75,15 @@ pub record NoSlack : Type 0 where
   pub judgeSoundTable : OneTable (λ e. e .1 .1 .1 .1 .0) verdict-judge-sound.Post
   pub lineFollows : OneReply lines-line-follows.Post
   -- evaluation
+  pub answerIn : OneReply evaluation-answer-in.Post
   pub answerAt : OneReply evaluation-answer-at.Post
+  pub known : OneReply evaluation-known.Post
+  pub lastOf : OneReply evaluation-last-of.Post
   pub roundsTable : OneTable (λ e. e .1 .1 .1 .1 .1 .1 .0) evaluation-rounds-at.Post
   pub wordOf : OneReply evaluation-word-of.Post
   pub answeredTable : OneTable (λ e. e .1 .1 .1 .1 .1 .0) evaluation-answers.Post
+  pub ownAnswers : OneReply evaluation-own-answers.Post
+  pub ownAnswersTable : OneTable (λ e. e .1 .1 .1 .1 .1 .0) evaluation-own-answers.Post
   -- certificate, dossier
   pub certificate : OneReply certificate-certificate.Post
   pub dossier : OneReply dossier-dossier.Post

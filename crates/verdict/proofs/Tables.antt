@@ -27,6 +27,7 @@ use Rattle.promise.specs.declared.Thing.the-variants as thing
 use Rattle.promise.proofs.Place.{filled-at, filled-length, many-at, many-past}
 use Rattle.evaluation.specs.Which.{policyAt}
 use Rattle.evaluation.specs.Answer.{answerOf, answerWord}
+use Rattle.evaluation.specs.declared.Which.the-variants.{Own}
 use Rattle.lines.specs.Ready as rules
 use Rattle.lines.specs.Ready.{ProbeStarts}
 use Rattle.verdict.specs.Told.{replyAt, roundsAt, Says, sizeOf, Told}
@@ -47,6 +48,11 @@ module _ (d : List ℕ) (o : Layout) (l : Laid d o) where
 pub lines-fit : (s : List ℕ) (k : ℕ) → Fit line s 2 k → FitOf thing.Line s 2 k
 unfolding FitOf okOf nextOf Fit
 lines-fit s k f j h = f j h
+
+-- the secret's answer in the dossier's own policy is the aim, whatever the certificate
+pub own-aim : (d : List ℕ) (o : Layout) (w : List ℕ) {b : Bool} → b ≡ answerOf d o w Own (o .secret) → b ≡ aim (dossierAt d o)
+unfolding aim answerOf policyAt dossierAt
+own-aim d o w e = e
 
 -- the answers, as evaluation writes them
 pub told-filled : (d : List ℕ) (o : Layout) (old : List ℕ) {t : List ℕ} → t ≡ filled (answerWord d o) (o .nprobes) old → o .nprobes ≤ length old → Told d o t

@@ -9,14 +9,15 @@ use reply::Verdict;
 ghost use mathlib.Core.Path.{_≡_};
 ghost use mathlib.Core.Bool.{not};
 ghost use Prim.Native.Nat.{_≤_, _<_, _-_};
-ghost use lib.ListN.{length};
+ghost use lib.ListN.{length, getD};
 ghost use Rattle.meaning.specs.Tests.{_is_, agree, choose, lowest};
 ghost use Rattle.meaning.specs.Looks.{aim};
 ghost use Rattle.meaning.specs.Papers as papers;
 ghost use Rattle.meaning.specs.Verdict as meant;
 ghost use Rattle.promise.specs.Place.{many, Fit, filled};
 ghost use Rattle.promise.specs.Clause.{credential};
-ghost use Rattle.promise.specs.Formula.{EntryFits};
+ghost use Rattle.promise.specs.Code.{bit};
+ghost use Rattle.promise.specs.Formula.{FormulaFits, entryAt, EntryFits};
 ghost use Rattle.promise.specs.Layout.{dossierAt, Laid, certificateAt, Proposed};
 ghost use Rattle.promise.specs.Line.{lineAt, line};
 ghost use Rattle.promise.specs.declared.Thing.the-variants as thing;
@@ -25,6 +26,7 @@ ghost use Rattle.lines.specs.Ready as rules;
 ghost use Rattle.lines.specs.Ready.{ProbeStarts};
 ghost use Rattle.promise.specs.Thing.{nextOf, okOf};
 ghost use Rattle.evaluation.specs.Answer.{roundOf};
+ghost use Rattle.evaluation.specs.Held.{readIn};
 ghost use Rattle.evaluation.specs.Which.{Ready};
 ghost use Rattle.evaluation.specs.declared.Which.the-variants.{Tried};
 ghost use Rattle.reply.specs.Answer.{accepted};
@@ -64,21 +66,12 @@ fn refusing(number: u16, paper: Paper, thing: Thing, s: &[u16], p: usize) -> Rep
     }
 }
 
-// Whether the policy tried answers probe i as the dossier's does, which `told` has.
-fn probe_agrees(
-    d: &[u16],
-    o: Layout,
-    creds: &[usize],
-    probes: &[usize],
-    told: &[u16],
-    w: &[u16],
-    k: usize,
-    i: usize,
-) -> bool
-    requires { ⌜ Ready (now d) o (now creds) (now w) (Tried k) × ProbeStarts (now d) o (now probes) × Told (now d) o (now told) × (i < o .nprobes) ⌝ }
-    ensures { λ r. ⌜ r ≡ meant.probeAgrees (dossierAt (now (d .entry)) o) (many (credential (o .atoms)) (now (w .entry)) 2 k) i ⌝ }
+// Whether probe i, which stands at p, is answered by the table of what holds there as the dossier's policy does, which `told` has.
+fn probe_agrees(d: &[u16], told: &[u16], i: usize, p: usize, table: &[u8]) -> bool
+    requires { ⌜ (i < length (now told)) × (entryAt (now d) p .next ≤ length (now d)) × FormulaFits (length (now table)) 16 (now d) (entryAt (now d) p .formula) ⌝ }
+    ensures { λ r. ⌜ r ≡ (bit (readIn (now (d .entry)) p (now (table .entry))) is getD (now (told .entry)) i 0) ⌝ }
 {
-    let a = evaluation::answer_at(d, o, creds, w, Which::Tried(k), probes[i]);
+    let a = evaluation::answer_in(d, p, table);
     evaluation::word_of(a) == told[i]
 }
 
@@ -96,22 +89,20 @@ fn first_differing(
     ensures { λ r. ⌜ r ≡ asFault (lowest (meant.probeAgrees (dossierAt (now (d .entry)) o) (many (credential (o .atoms)) (now (w .entry)) 2 k)) 0 (o .nprobes)) ⌝ }
 {
     let n = o.nprobes;
+    let m = o.atoms;
+    let mut held = [0u8; 64];
     let mut i = 0;
     while i < n {
-        if !probe_agrees(d, o, creds, probes, told, w, k, i) {
+        let p = probes[i];
+        let last = evaluation::last_of(probes, i);
+        let t = evaluation::known(d, o, creds, w, Which::Tried(k), last, held, p);
+        if !probe_agrees(d, told, i, p, &t[..m]) {
             return Fault::At(i);
         }
+        held = t;
         i += 1;
     }
     Fault::Nowhere
-}
-
-// The value that the secret has in the dossier's policy: a proof shows it, a witness denies it.
-fn own_secret(d: &[u16], o: Layout, creds: &[usize]) -> bool
-    requires { ⌜ Laid (now d) o × rules.CredStarts (now d) o (now creds) ⌝ }
-    ensures { λ r. ⌜ r ≡ aim (dossierAt (now (d .entry)) o) ⌝ }
-{
-    evaluation::answer_at(d, o, creds, d, Which::Own, o.secret)
 }
 
 // The refusal that shows the entry at p, which the policy tried answers otherwise than it has to; the table gets the number of the
@@ -134,22 +125,23 @@ fn explaining(
     refusing(number, Paper::Dossier, Thing::Entry, d, p)
 }
 
-// With every probe answered alike: the secret.
+// With every probe answered alike: the secret, which is not to have the value `goal` that it has in the dossier's policy.
 fn judge_secret(
     d: &[u16],
     o: Layout,
     creds: &[usize],
+    goal: bool,
     w: &[u16],
     k: usize,
     rounds: &mut [u16],
 ) -> Reply
-    requires { ⌜ Ready (now d) o (now creds) (now w) (Tried k) × (o .atoms ≤ length (now rounds)) ⌝ }
+    requires { ⌜ Ready (now d) o (now creds) (now w) (Tried k) × (goal ≡ aim (dossierAt (now d) o)) × (o .atoms ≤ length (now rounds)) ⌝ }
     ensures { λ r. ⌜ Says (now (d .entry)) o (now (w .entry)) k (papers.witness (many (credential (o .atoms)) (now (w .entry)) 2 k)) (choose
         (agree (papers.answer (dossierAt (now (d .entry)) o) (meant.tried (dossierAt (now (d .entry)) o) (many (credential (o .atoms)) (now (w .entry)) 2 k)) (dossierAt (now (d .entry)) o .secret)) (not (aim (dossierAt (now (d .entry)) o))))
         meant.opaque meant.secretKept) (now (rounds .entry)) r (now (rounds .exit)) ⌝ }
 {
     let p = o.secret;
-    if evaluation::answer_at(d, o, creds, w, Which::Tried(k), p) != own_secret(d, o, creds) {
+    if evaluation::answer_at(d, o, creds, w, Which::Tried(k), p) != goal {
         accepting(Verdict::Opaque)
     } else {
         explaining(15, d, o, creds, w, k, p, rounds)
@@ -163,17 +155,18 @@ fn judge_witness(
     creds: &[usize],
     probes: &[usize],
     told: &[u16],
+    goal: bool,
     w: &[u16],
     k: usize,
     rounds: &mut [u16],
 ) -> Reply
-    requires { ⌜ Ready (now d) o (now creds) (now w) (Tried k) × ProbeStarts (now d) o (now probes) × Told (now d) o (now told) × (o .atoms ≤ length (now rounds)) ⌝ }
+    requires { ⌜ Ready (now d) o (now creds) (now w) (Tried k) × ProbeStarts (now d) o (now probes) × Told (now d) o (now told) × (goal ≡ aim (dossierAt (now d) o)) × (o .atoms ≤ length (now rounds)) ⌝ }
     ensures { λ r. ⌜ Says (now (d .entry)) o (now (w .entry)) k (papers.witness (many (credential (o .atoms)) (now (w .entry)) 2 k))
         (meant.judge (dossierAt (now (d .entry)) o) (papers.witness (many (credential (o .atoms)) (now (w .entry)) 2 k))) (now (rounds .entry)) r (now (rounds .exit)) ⌝ }
 {
     match first_differing(d, o, creds, probes, told, w, k) {
         Fault::At(j) => explaining(14, d, o, creds, w, k, probes[j], rounds),
-        Fault::Nowhere => judge_secret(d, o, creds, w, k, rounds),
+        Fault::Nowhere => judge_secret(d, o, creds, goal, w, k, rounds),
     }
 }
 
@@ -240,22 +233,22 @@ fn judge_proof(
     }
 }
 
-// The proof of k lines, with what only a proof needs. A short proof has a short table for its lines.
+// The proof of k lines, with what only a proof needs; `goal` is the value that the secret has in the dossier's policy, which it is to show. A short proof has a short table for its lines.
 fn judge_lines(
     d: &[u16],
     o: Layout,
     creds: &[usize],
     probes: &[usize],
     told: &[u16],
+    goal: bool,
     s: &[u16],
     k: usize,
 ) -> Reply
-    requires { ⌜ Laid (now d) o × rules.CredStarts (now d) o (now creds) × ProbeStarts (now d) o (now probes) × Told (now d) o (now told) × (1 ≤ k) × (k ≤ 1024) × Fit line (now s) 2 k ⌝ }
+    requires { ⌜ Laid (now d) o × rules.CredStarts (now d) o (now creds) × ProbeStarts (now d) o (now probes) × Told (now d) o (now told) × (goal ≡ aim (dossierAt (now d) o)) × (1 ≤ k) × (k ≤ 1024) × Fit line (now s) 2 k ⌝ }
     ensures { λ r. ⌜ r ≡ replyAt (now (d .entry)) o (now (s .entry)) k (meant.judge (dossierAt (now (d .entry)) o) (papers.proof (many line (now (s .entry)) 2 k))) ⌝ }
 {
     let mut clauses = [0usize; 128];
     promise::starts(d, o.clauses, o.nclauses, Thing::Clause, &mut clauses);
-    let goal = own_secret(d, o, creds);
     if k <= 64 {
         let mut short = [0usize; 64];
         return judge_proof(d, o, &clauses, creds, probes, told, goal, s, &mut short, k);
@@ -264,7 +257,7 @@ fn judge_lines(
     judge_proof(d, o, &clauses, creds, probes, told, goal, s, &mut lines, k)
 }
 
-// The judgement of two sound papers: d has the layout o, and c has that proposal. `told` is blank, then has the dossier's answers.
+// The judgement of two sound papers: d has the layout o, and c has that proposal. `told` is blank, then has the dossier's answers, and `goal` the secret's.
 // On 14 and 15 `rounds` gets the number of the round that first adds each atom, in the policy tried with the credentials of that entry.
 pub fn judge_sound(d: &[u16], o: Layout, c: &[u16], proposal: Proposal, rounds: &mut [u16]) -> Reply
     requires { ⌜ Laid (now d) o × Proposed (o .atoms) (now c) proposal × (o .atoms ≤ length (now rounds)) ⌝ }
@@ -277,9 +270,9 @@ pub fn judge_sound(d: &[u16], o: Layout, c: &[u16], proposal: Proposal, rounds: 
     let mut told = blank;
     promise::starts(d, o.creds, o.ncreds, Thing::Credential, &mut creds);
     promise::starts(d, o.probes, o.nprobes, Thing::Entry, &mut probes);
-    evaluation::answers(d, o, &creds, &probes, c, &mut told);
+    let goal = evaluation::own_answers(d, o, &creds, &probes, c, &mut told);
     match proposal {
-        Proposal::Witness(k) => judge_witness(d, o, &creds, &probes, &told, c, k, rounds),
-        Proposal::Proof(k) => judge_lines(d, o, &creds, &probes, &told, c, k),
+        Proposal::Witness(k) => judge_witness(d, o, &creds, &probes, &told, goal, c, k, rounds),
+        Proposal::Proof(k) => judge_lines(d, o, &creds, &probes, &told, goal, c, k),
     }
 }

@@ -1,5 +1,6 @@
 -- `evaluation::first_rounds` meets its contract: the rounds run on the first bytes of a table of zeros.
 use borrow.Author.Needs.{needs}
+use Rattle.evaluation.specs.Held.{tableOf}
 use Rattle.evaluation.proofs.Entry.{zeros, zeros-size, run-back}
 use Rattle.evaluation.proofs.first_rounds.Statement.{statement}
 use Rattle.evaluation.proofs.first_rounds.Tie as tie
@@ -17,6 +18,7 @@ run-requires : tie.Need-run-requires
 run-requires c κs = (c .before .before .before .before .before .pre, zeros (c .before .none .ensures) _ (c .before .before .before .before .before .pre .ready .laid .atoms))
 
 returns : tie.Need-returns
+unfolding tableOf
 returns c = run-back _ _ (c .before .before .before .none .ensures) (c .before .run .ensures)
 
 pub first-rounds-spec : {M : Type 1} → statement M

@@ -14,9 +14,6 @@ starts-requires c κs =
     let a = start .args in
     (clauses-fit (a .d .now) (a .o) (start .pre .0), start .pre .0 .fewClauses)
 
-own-secret-requires : tie.Need-own-secret-requires
-own-secret-requires c κs = search needs
-
 slice-aggregate-judge-proof : tie.Need-slice-aggregate-judge-proof
 slice-aggregate-judge-proof c = search needs
 
@@ -25,10 +22,10 @@ slice-aggregate-judge-proof-2 c = search needs
 
 judge-proof-requires : tie.Need-judge-proof-requires
 judge-proof-requires c κs =
-    let start = c .before .before .before .before .before .before .before .before .before .before .before .before in
+    let start = c .before .before .before .before .before .before .before .before .before .before .before in
     let a = start .args in
     let pre = start .pre in
-    (rules-ready (a .d .now) (a .o) (a .told .now) (pre .3) (pre .0) (clauses-filled (a .d .now) (a .o) _ (c .before .before .before .before .before .starts .ensures) (pre .0 .fewClauses)) (pre .1) (pre .2) (c .before .before .before .own-secret .ensures), c .before .before .if1 .taken, pre .6, pre .4, pre .5)
+    (rules-ready (a .d .now) (a .o) (a .told .now) (pre .3) (pre .0) (clauses-filled (a .d .now) (a .o) _ (c .before .before .before .before .starts .ensures) (pre .0 .fewClauses)) (pre .1) (pre .2) (pre .4), c .before .before .if1 .taken, pre .7, pre .5, pre .6)
 
 returns : tie.Need-returns
 returns c = search needs
@@ -41,10 +38,10 @@ slice-aggregate-judge-proof-4 c = search needs
 
 judge-proof-requires-2 : tie.Need-judge-proof-requires-2
 judge-proof-requires-2 c κs =
-    let start = c .before .before .before .before .before .before .before .before .before .before .before .before in
+    let start = c .before .before .before .before .before .before .before .before .before .before .before in
     let a = start .args in
     let pre = start .pre in
-    (rules-ready (a .d .now) (a .o) (a .told .now) (pre .3) (pre .0) (clauses-filled (a .d .now) (a .o) _ (c .before .before .before .before .before .starts .ensures) (pre .0 .fewClauses)) (pre .1) (pre .2) (c .before .before .before .own-secret .ensures), pre .5, pre .6, pre .4, pre .5)
+    (rules-ready (a .d .now) (a .o) (a .told .now) (pre .3) (pre .0) (clauses-filled (a .d .now) (a .o) _ (c .before .before .before .before .starts .ensures) (pre .0 .fewClauses)) (pre .1) (pre .2) (pre .4), pre .6, pre .7, pre .5, pre .6)
 
 returns-2 : tie.Need-returns-2
 returns-2 c = search needs
@@ -55,7 +52,6 @@ judge-lines-spec =
     (tie.spec
     slice-aggregate-starts
     starts-requires
-    own-secret-requires
     slice-aggregate-judge-proof
     slice-aggregate-judge-proof-2
     judge-proof-requires

@@ -1,7 +1,7 @@
 -- `verdict::judge_sound` meets its contract: it fills the tables and asks for the proposal.
 use Rattle.evaluation.specs.Which.{WhichFits}
 use Rattle.lines.proofs.Tables.{creds-filled, probes-filled}
-use Rattle.verdict.proofs.Tables.{creds-fit, probes-fit, told-filled, witness-there, proof-there, witness-judged, proof-judged}
+use Rattle.verdict.proofs.Tables.{creds-fit, probes-fit, told-filled, own-aim, witness-there, proof-there, witness-judged, proof-judged}
 use mathlib.Core.Path.{refl}
 use borrow.Author.Needs.{needs}
 use Rattle.verdict.proofs.judge_sound.Statement.{statement}
@@ -25,18 +25,18 @@ starts-requires-2 c κs =
     let a = start .args in
     (probes-fit (a .d .now) (a .o) (start .pre .0), start .pre .0 .few)
 
-slice-aggregate-answers : tie.Need-slice-aggregate-answers
-slice-aggregate-answers c = search needs
+slice-aggregate-own-answers : tie.Need-slice-aggregate-own-answers
+slice-aggregate-own-answers c = search needs
 
-slice-aggregate-answers-2 : tie.Need-slice-aggregate-answers-2
-slice-aggregate-answers-2 c = search needs
+slice-aggregate-own-answers-2 : tie.Need-slice-aggregate-own-answers-2
+slice-aggregate-own-answers-2 c = search needs
 
-slice-aggregate-answers-3 : tie.Need-slice-aggregate-answers-3
-slice-aggregate-answers-3 c = search needs
+slice-aggregate-own-answers-3 : tie.Need-slice-aggregate-own-answers-3
+slice-aggregate-own-answers-3 c = search needs
 
-answers-requires : tie.Need-answers-requires
+own-answers-requires : tie.Need-own-answers-requires
 unfolding WhichFits
-answers-requires c κs =
+own-answers-requires c κs =
     let start = c .before .before .before .before .before .before .before .before .before .before .before .before in
     let a = start .args in
     (record { laid = start .pre .0; starts = creds-filled (a .d .now) (a .o) _ (c .before .before .before .before .before .before .before .starts .ensures) (start .pre .0 .fewCreds); witness = tt }, probes-filled (a .d .now) (a .o) _ (c .before .before .before .before .starts2 .ensures) (start .pre .0 .few), start .pre .0 .few)
@@ -58,7 +58,7 @@ unfolding WhichFits
 judge-witness-requires c κs =
     let start = c .before .before .before .before .before .before .before .before .before .before .before .before .before .before .before .before .before .before .before .before .before in
     let a = start .args in
-    (record { laid = start .pre .0; starts = creds-filled (a .d .now) (a .o) _ (c .before .before .before .before .before .before .before .before .before .before .before .before .before .before .before .before .starts .ensures) (start .pre .0 .fewCreds); witness = witness-there (a .o .atoms) (a .c .now) (c .before .before .before .before .before .proposal .given .1) (start .pre .1) }, probes-filled (a .d .now) (a .o) _ (c .before .before .before .before .before .before .before .before .before .before .before .before .before .starts2 .ensures) (start .pre .0 .few), told-filled (a .d .now) (a .o) _ (c .before .before .before .before .before .before .before .before .answers .ensures) (start .pre .0 .few), start .pre .2)
+    (record { laid = start .pre .0; starts = creds-filled (a .d .now) (a .o) _ (c .before .before .before .before .before .before .before .before .before .before .before .before .before .before .before .before .starts .ensures) (start .pre .0 .fewCreds); witness = witness-there (a .o .atoms) (a .c .now) (c .before .before .before .before .before .proposal .given .1) (start .pre .1) }, probes-filled (a .d .now) (a .o) _ (c .before .before .before .before .before .before .before .before .before .before .before .before .before .starts2 .ensures) (start .pre .0 .few), told-filled (a .d .now) (a .o) _ (c .before .before .before .before .before .before .before .before .own-answers .ensures .0) (start .pre .0 .few), own-aim (a .d .now) (a .o) _ (c .before .before .before .before .before .before .before .before .own-answers .ensures .1), start .pre .2)
 
 enum-known-proposal-2 : tie.Need-enum-known-proposal-2
 enum-known-proposal-2 c = search needs
@@ -77,7 +77,7 @@ judge-lines-requires c κs =
     let start = c .before .before .before .before .before .before .before .before .before .before .before .before .before .before .before .before .before .before .before .before in
     let a = start .args in
     let t = proof-there (a .o .atoms) (a .c .now) (c .before .before .before .before .proposal2 .given .1) (start .pre .1) in
-    (start .pre .0, creds-filled (a .d .now) (a .o) _ (c .before .before .before .before .before .before .before .before .before .before .before .before .before .before .before .starts .ensures) (start .pre .0 .fewCreds), probes-filled (a .d .now) (a .o) _ (c .before .before .before .before .before .before .before .before .before .before .before .before .starts2 .ensures) (start .pre .0 .few), told-filled (a .d .now) (a .o) _ (c .before .before .before .before .before .before .before .answers .ensures) (start .pre .0 .few), t .0, t .1, t .2)
+    (start .pre .0, creds-filled (a .d .now) (a .o) _ (c .before .before .before .before .before .before .before .before .before .before .before .before .before .before .before .starts .ensures) (start .pre .0 .fewCreds), probes-filled (a .d .now) (a .o) _ (c .before .before .before .before .before .before .before .before .before .before .before .before .starts2 .ensures) (start .pre .0 .few), told-filled (a .d .now) (a .o) _ (c .before .before .before .before .before .before .before .own-answers .ensures .0) (start .pre .0 .few), own-aim (a .d .now) (a .o) _ (c .before .before .before .before .before .before .before .own-answers .ensures .1), t .0, t .1, t .2)
 
 same-length : tie.Need-same-length
 same-length c = search needs
@@ -100,10 +100,10 @@ judge-sound-spec =
     starts-requires
     slice-aggregate-starts-2
     starts-requires-2
-    slice-aggregate-answers
-    slice-aggregate-answers-2
-    slice-aggregate-answers-3
-    answers-requires
+    slice-aggregate-own-answers
+    slice-aggregate-own-answers-2
+    slice-aggregate-own-answers-3
+    own-answers-requires
     enum-known-proposal
     slice-aggregate-judge-witness
     slice-aggregate-judge-witness-2

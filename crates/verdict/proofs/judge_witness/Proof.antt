@@ -30,7 +30,7 @@ explaining-requires : tie.Need-explaining-requires
 explaining-requires c κs =
     let start = c .before .before .before .before .before .before .before .before .before .before .before .before in
     let a = start .args in
-    (start .pre .0, probe-fits (a .d .now) (a .o) (a .probes .now) (start .pre .1) _ (probe-below (a .d .now) (a .o) (a .w .now) (a .k) (c .before .before .before .before .before .first-differing .ensures) (c .before .before .before .j .given .1)) (start .pre .0 .laid), start .pre .3)
+    (start .pre .0, probe-fits (a .d .now) (a .o) (a .probes .now) (start .pre .1) _ (probe-below (a .d .now) (a .o) (a .w .now) (a .k) (c .before .before .before .before .before .first-differing .ensures) (c .before .before .before .j .given .1)) (start .pre .0 .laid), start .pre .4)
 
 enum-told : tie.Need-enum-told
 enum-told c = search needs
