@@ -368,7 +368,7 @@ pub fn known(
 }
 
 // Writes the numbers to the start of the table, which is as long or longer; the words beyond stay.
-fn widen(src: &[u8], dst: &mut [u16])
+pub fn widen(src: &[u8], dst: &mut [u16])
     requires { ⌜ length (now src) ≤ length (now dst) ⌝ }
     ensures { λ _. ⌜ now (dst .exit) ≡ now (src .entry) ++ drop (length (now (src .entry))) (now (dst .entry)) ⌝ }
 {

@@ -20,6 +20,7 @@ noSlack =
       answerAt = λ κs a x y e f p q. one p q;
       known = λ κs a x y e f p q. one p q;
       lastOf = λ κs a x y e f p q. one p q;
+      widenTable = λ κs a x y e f p q. one p q;
       roundsTable = λ κs a x y e f p q. one p q;
       wordOf = λ κs a x y e f p q. one p q;
       answeredTable = λ κs a x y e f p q. one p q;

@@ -12,6 +12,7 @@ use Rattle.evaluation.proofs.answer_in.Reads as evaluation-answer-in
 use Rattle.evaluation.proofs.answer_at.Reads as evaluation-answer-at
 use Rattle.evaluation.proofs.known.Reads as evaluation-known
 use Rattle.evaluation.proofs.last_of.Reads as evaluation-last-of
+use Rattle.evaluation.proofs.widen.Reads as evaluation-widen
 use Rattle.evaluation.proofs.rounds_at.Reads as evaluation-rounds-at
 use Rattle.evaluation.proofs.word_of.Reads as evaluation-word-of
 use Rattle.evaluation.proofs.answers.Reads as evaluation-answers
@@ -79,6 +80,7 @@ pub record NoSlack : Type 0 where
   pub answerAt : OneReply evaluation-answer-at.Post
   pub known : OneReply evaluation-known.Post
   pub lastOf : OneReply evaluation-last-of.Post
+  pub widenTable : OneTable (λ e. e .1 .0) evaluation-widen.Post
   pub roundsTable : OneTable (λ e. e .1 .1 .1 .1 .1 .1 .0) evaluation-rounds-at.Post
   pub wordOf : OneReply evaluation-word-of.Post
   pub answeredTable : OneTable (λ e. e .1 .1 .1 .1 .1 .0) evaluation-answers.Post

@@ -29,7 +29,7 @@ use Rattle.evaluation.specs.Which.{policyAt, joinedAt}
 use Rattle.evaluation.specs.Answer.{answerOf, roundOf}
 use Rattle.evaluation.specs.declared.Which.the-variants.{Tried}
 use Rattle.lines.specs.Ready.{ProbeStarts}
-use Rattle.verdict.specs.Told.{showing, replyAt, numbered, roundsAt, Says, asFault}
+use Rattle.verdict.specs.Told.{showing, replyAt, numbered, roundsAt, Says, asFault, roundsThere}
 use Rattle.verdict.specs.declared.Fault.{Fault}
 use Rattle.verdict.specs.declared.Fault.the-variants as fault
 use Rattle.verdict.proofs.Lowest.{lowest-below}
@@ -101,13 +101,17 @@ module _ (d : List ℕ) (o : Layout) (w : List ℕ) (k : ℕ) where
     probe-below h = lowest-below _ _ _ (fault-at e h)
 
     module _ {t : List ℕ} {r : Reply} {u : List ℕ} where
-      pub witness-differs : {j : ℕ} (probes : List ℕ) → ProbeStarts d o probes → f ≡ fault.At j → r ≡ showing 14 paper.Dossier thing.Entry d (getD probes j 0) → Explained (getD probes j 0) t u → SaysWitness (judge (dossierAt d o) (witness (many (credential (o .atoms)) w 2 k))) t r u
-      unfolding decide
-      witness-differs {j} probes s h g x = subst (λ (y : Outcome). SaysWitness y t r u) (judged-by (fault-at e h)) (says-probe j (probe-below h) probes s g x)
+      pub witness-differs : {j : ℕ} (probes : List ℕ) → ProbeStarts d o probes → f ≡ fault.At j → r ≡ showing 14 paper.Dossier thing.Entry d (getD probes j 0) → u ≡ roundsThere d o w k probes f t
+          → SaysWitness (judge (dossierAt d o) (witness (many (credential (o .atoms)) w 2 k))) t r u
+      unfolding decide roundsThere
+      witness-differs {j} probes s h g x =
+          subst (λ (y : Outcome). SaysWitness y t r u) (judged-by (fault-at e h)) (says-probe j (probe-below h) probes s g (x ∙ ap (λ (y : Fault). roundsThere d o w k probes y t) h))
 
-      pub witness-alike : f ≡ fault.Nowhere → SaysWitness by-secret t r u → SaysWitness (judge (dossierAt d o) (witness (many (credential (o .atoms)) w 2 k))) t r u
-      unfolding decide
-      witness-alike h g = subst (λ (y : Outcome). SaysWitness y t r u) (judged-by (fault-none e h)) g
+      pub witness-alike : (probes : List ℕ) {v : List ℕ} → f ≡ fault.Nowhere → v ≡ roundsThere d o w k probes f t → SaysWitness by-secret v r u
+          → SaysWitness (judge (dossierAt d o) (witness (many (credential (o .atoms)) w 2 k))) t r u
+      unfolding decide roundsThere
+      witness-alike probes h x g =
+          subst (λ (y : Outcome). SaysWitness y t r u) (judged-by (fault-none e h)) (subst (λ (z : List ℕ). SaysWitness by-secret z r u) (x ∙ ap (λ (y : Fault). roundsThere d o w k probes y t) h) g)
 
   opposite : (b goal : Bool) → agree b (not goal) ≡ not (agree b goal)
   unfolding agree

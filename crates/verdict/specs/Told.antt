@@ -20,7 +20,8 @@ use Rattle.reply.specs.declared.Paper.{Paper}
 use Rattle.reply.specs.declared.Paper.the-variants.{Dossier, Certificate}
 use Rattle.reply.specs.declared.Reply.{Reply}
 use Rattle.reply.specs.declared.Verdict.the-variants.{Opaque, Detectable}
-use Rattle.evaluation.specs.Answer.{answerWord}
+use Rattle.evaluation.specs.Answer.{answerWord, roundOf}
+use Rattle.evaluation.specs.declared.Which.the-variants.{Tried}
 use Rattle.verdict.specs.declared.Fault.{Fault}
 use Rattle.verdict.specs.declared.Fault.the-variants as fault
 
@@ -61,6 +62,11 @@ sizeOf (Proof k) = k
 unfoldable pub asFault : Option ℕ → Fault
 asFault none = fault.Nowhere
 asFault (some j) = fault.At j
+
+-- the lent table t after the search for a probe that a witness of k clauses, the words w, answers otherwise: "the words 0 to n - 1 of the lent table become these numbers"
+unfoldable pub roundsThere : List ℕ → Layout → List ℕ → ℕ → List ℕ → Fault → List ℕ → List ℕ
+roundsThere d o w k probes fault.Nowhere t = t
+roundsThere d o w k probes (fault.At j) t = filled (roundOf d o w (Tried k) (getD probes j 0)) (o .atoms) t
 
 -- a table that has the policy's answer to each probe
 pub record Told (d : List ℕ) (o : Layout) (told : List ℕ) : Type 0 where

@@ -14,10 +14,10 @@ ghost use Rattle.meaning.specs.Tests.{_is_, agree, choose, lowest};
 ghost use Rattle.meaning.specs.Looks.{aim};
 ghost use Rattle.meaning.specs.Papers as papers;
 ghost use Rattle.meaning.specs.Verdict as meant;
-ghost use Rattle.promise.specs.Place.{many, Fit, filled};
+ghost use Rattle.promise.specs.Place.{many, Fit};
 ghost use Rattle.promise.specs.Clause.{credential};
 ghost use Rattle.promise.specs.Code.{bit};
-ghost use Rattle.promise.specs.Formula.{FormulaFits, entryAt, EntryFits};
+ghost use Rattle.promise.specs.Formula.{FormulaFits, entryAt};
 ghost use Rattle.promise.specs.Layout.{dossierAt, Laid, certificateAt, Proposed};
 ghost use Rattle.promise.specs.Line.{lineAt, line};
 ghost use Rattle.promise.specs.declared.Thing.the-variants as thing;
@@ -25,14 +25,13 @@ ghost use Rattle.meaning.specs.Rules.{lineFollows};
 ghost use Rattle.lines.specs.Ready as rules;
 ghost use Rattle.lines.specs.Ready.{ProbeStarts};
 ghost use Rattle.promise.specs.Thing.{nextOf, okOf};
-ghost use Rattle.evaluation.specs.Answer.{roundOf};
 ghost use Rattle.evaluation.specs.Held.{readIn};
 ghost use Rattle.evaluation.specs.Which.{Ready};
 ghost use Rattle.evaluation.specs.declared.Which.the-variants.{Tried};
 ghost use Rattle.reply.specs.Answer.{accepted};
 ghost use Rattle.reply.specs.declared.Paper.the-variants as paper;
 ghost use Rattle.reply.specs.declared.Verdict.the-variants as verdict;
-ghost use Rattle.verdict.specs.Told.{showing, replyAt, Says, sizeOf, asFault, Told};
+ghost use Rattle.verdict.specs.Told.{showing, replyAt, Says, sizeOf, asFault, roundsThere, Told};
 
 // The lowest number at fault, if there is one.
 pub enum Fault {
@@ -75,7 +74,8 @@ fn probe_agrees(d: &[u16], told: &[u16], i: usize, p: usize, table: &[u8]) -> bo
     evaluation::word_of(a) == told[i]
 }
 
-// The lowest probe that the policy tried does not answer as the dossier's does.
+// The lowest probe that the policy tried does not answer as the dossier's does. If there is one, the table gets the number of the round that
+// first adds each atom there.
 fn first_differing(
     d: &[u16],
     o: Layout,
@@ -84,9 +84,11 @@ fn first_differing(
     told: &[u16],
     w: &[u16],
     k: usize,
+    rounds: &mut [u16],
 ) -> Fault
-    requires { ⌜ Ready (now d) o (now creds) (now w) (Tried k) × ProbeStarts (now d) o (now probes) × Told (now d) o (now told) ⌝ }
-    ensures { λ r. ⌜ r ≡ asFault (lowest (meant.probeAgrees (dossierAt (now (d .entry)) o) (many (credential (o .atoms)) (now (w .entry)) 2 k)) 0 (o .nprobes)) ⌝ }
+    requires { ⌜ Ready (now d) o (now creds) (now w) (Tried k) × ProbeStarts (now d) o (now probes) × Told (now d) o (now told) × (o .atoms ≤ length (now rounds)) ⌝ }
+    ensures { λ r. ⌜ (r ≡ asFault (lowest (meant.probeAgrees (dossierAt (now (d .entry)) o) (many (credential (o .atoms)) (now (w .entry)) 2 k)) 0 (o .nprobes)))
+        × (now (rounds .exit) ≡ roundsThere (now (d .entry)) o (now (w .entry)) k (now (probes .entry)) r (now (rounds .entry))) ⌝ }
 {
     let n = o.nprobes;
     let m = o.atoms;
@@ -97,32 +99,13 @@ fn first_differing(
         let last = evaluation::last_of(probes, i);
         let t = evaluation::known(d, o, creds, w, Which::Tried(k), last, held, p);
         if !probe_agrees(d, told, i, p, &t[..m]) {
+            evaluation::widen(&t[..m], rounds);
             return Fault::At(i);
         }
         held = t;
         i += 1;
     }
     Fault::Nowhere
-}
-
-// The refusal that shows the entry at p, which the policy tried answers otherwise than it has to; the table gets the number of the
-// round that first adds each atom there.
-fn explaining(
-    number: u16,
-    d: &[u16],
-    o: Layout,
-    creds: &[usize],
-    w: &[u16],
-    k: usize,
-    p: usize,
-    rounds: &mut [u16],
-) -> Reply
-    requires { ⌜ Ready (now d) o (now creds) (now w) (Tried k) × EntryFits (o .atoms) (o .ncreds) (now d) p × (o .atoms ≤ length (now rounds)) ⌝ }
-    ensures { λ r. ⌜ (r ≡ showing number paper.Dossier thing.Entry (now (d .entry)) p)
-        × (now (rounds .exit) ≡ filled (roundOf (now (d .entry)) o (now (w .entry)) (Tried k) p) (o .atoms) (now (rounds .entry))) ⌝ }
-{
-    evaluation::rounds_at(d, o, creds, w, Which::Tried(k), p, rounds);
-    refusing(number, Paper::Dossier, Thing::Entry, d, p)
 }
 
 // With every probe answered alike: the secret, which is not to have the value `goal` that it has in the dossier's policy.
@@ -144,7 +127,8 @@ fn judge_secret(
     if evaluation::answer_at(d, o, creds, w, Which::Tried(k), p) != goal {
         accepting(Verdict::Opaque)
     } else {
-        explaining(15, d, o, creds, w, k, p, rounds)
+        evaluation::rounds_at(d, o, creds, w, Which::Tried(k), p, rounds);
+        refusing(15, Paper::Dossier, Thing::Entry, d, p)
     }
 }
 
@@ -164,8 +148,8 @@ fn judge_witness(
     ensures { λ r. ⌜ Says (now (d .entry)) o (now (w .entry)) k (papers.witness (many (credential (o .atoms)) (now (w .entry)) 2 k))
         (meant.judge (dossierAt (now (d .entry)) o) (papers.witness (many (credential (o .atoms)) (now (w .entry)) 2 k))) (now (rounds .entry)) r (now (rounds .exit)) ⌝ }
 {
-    match first_differing(d, o, creds, probes, told, w, k) {
-        Fault::At(j) => explaining(14, d, o, creds, w, k, probes[j], rounds),
+    match first_differing(d, o, creds, probes, told, w, k, rounds) {
+        Fault::At(j) => refusing(14, Paper::Dossier, Thing::Entry, d, probes[j]),
         Fault::Nowhere => judge_secret(d, o, creds, goal, w, k, rounds),
     }
 }
