@@ -152,7 +152,7 @@ unfolding lastOf
 last-some t zero n = absurd (n refl)
 last-some t (suc k) n = ap (λ (j : ℕ). getD t j 0) (omega arith)
 
--- at first nothing is held; after thing k of a table, which begins at p, what holds there is
+-- at first nothing is held; after the entry whose place is number k of a table, what holds there is
 module _ (d : List ℕ) (o : Layout) (w : List ℕ) (which : Which) (t : List ℕ) where
   pub held-none : (u : List ℕ) → Held d o w which (lastOf t 0) u
   unfolding Held lastOf

@@ -458,7 +458,7 @@ pub fn answers(
     answer_probes(d, o, creds, probes, w, table);
 }
 
-// The same, and answers the secret's answer in the dossier's own policy.
+// The same; and tells the secret's answer in the dossier's own policy.
 pub fn own_answers(
     d: &[u16],
     o: Layout,
