@@ -158,7 +158,7 @@ module _ (d : List ℕ) (o : Layout) (w : List ℕ) (which : Which) (t : List �
   unfolding Held lastOf
   held-none u z = absurd (z refl)
 
-  pub held-on : (k : ℕ) {u : List ℕ} → EntryFits (o .atoms) (o .ncreds) d (getD t k 0) → u ≡ tableOf d o w which (entryAt d (getD t k 0)) → Held d o w which (lastOf t (k + 1)) u
+  held-on : (k : ℕ) {u : List ℕ} → EntryFits (o .atoms) (o .ncreds) d (getD t k 0) → u ≡ tableOf d o w which (entryAt d (getD t k 0)) → Held d o w which (lastOf t (k + 1)) u
   unfolding Held lastOf
   held-on k fits e z =
       let one : k + 1 ≡ suc k = omega arith in
@@ -190,3 +190,24 @@ module _ (d : List ℕ) (o : Layout) (probes : List ℕ) (s : Starts (entry (o .
   pub probe-word : (w : List ℕ) {x : ℕ} {a : Bool} → x ≡ bit a → a ≡ answerOf d o w Own (getD probes j 0) → x ≡ answerWord d o j
   unfolding answerWord answerOf policyAt
   probe-word w e f = e ∙ ap bit (probe-answer w Own f)
+
+-- and by the table of what holds there
+module _ {d : List ℕ} {o : Layout} {creds w : List ℕ} {which : Which} (ready : Ready d o creds w which) {probes : List ℕ} (s : Starts (entry (o .atoms) (o .ncreds) .next d) (o .probes) (o .nprobes) probes) (j : ℕ) (h : j < o .nprobes) where
+  pub probe-there : EntryFits (o .atoms) (o .ncreds) d (getD probes j 0)
+  probe-there = probe-fits d o probes s j h (ready .laid)
+
+  module _ {t : List ℕ} (found : t ≡ tableOf d o w which (entryAt d (getD probes j 0))) where
+    pub probe-size : o .atoms ≡ length (take (o .atoms) t)
+    probe-size = table-size ready probe-there refl found
+
+    pub probe-reads : (entryAt d (getD probes j 0) .next ≤ length d) × FormulaFits (length (take (o .atoms) t)) 16 d (entryAt d (getD probes j 0) .formula)
+    probe-reads = (probe-there .ends, table-fits ready probe-there refl found)
+
+    pub probe-says : readIn d (getD probes j 0) (take (o .atoms) t) ≡ answerOf d o w which (getD probes j 0)
+    probe-says = answer-is ready probe-there refl found
+
+    pub probe-rounds : (old : List ℕ) {u : List ℕ} → u ≡ take (o .atoms) t ++ drop (length (take (o .atoms) t)) old → u ≡ filled (roundOf d o w which (getD probes j 0)) (o .atoms) old
+    probe-rounds old g = rounds-are ready probe-there refl found old g
+
+    pub probe-held : Held d o w which (lastOf probes (j + 1)) t
+    probe-held = held-on d o w which probes j probe-there found

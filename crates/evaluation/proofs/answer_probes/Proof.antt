@@ -10,7 +10,7 @@ use Rattle.promise.proofs.Place.{filled-none, filled-on, filled-length}
 use Rattle.evaluation.specs.Answer.{answerWord}
 use Rattle.evaluation.specs.Held.{Held, lastOf}
 use Rattle.evaluation.specs.declared.Which.the-variants.{Own}
-use Rattle.evaluation.proofs.Entry.{probe-fits, probe-word, table-size, table-fits, answer-is, held-none, held-on}
+use Rattle.evaluation.proofs.Entry.{probe-word, probe-there, probe-size, probe-reads, probe-says, probe-held, held-none}
 use Rattle.evaluation.proofs.answer_probes.Statement.{statement}
 use Rattle.evaluation.proofs.answer_probes.Tie as tie
 
@@ -36,28 +36,16 @@ last-of-requires : tie.Need-last-of-requires Inv-loop μ-loop
 last-of-requires c κs = omega (arith, c .before .before .before .before .before .before .before .before .before .pre .1 .long)
 
 known-requires : tie.Need-known-requires Inv-loop μ-loop
-known-requires c κs =
-    let start = c .before .before .before .before .before .before .before .before .before .before in
-    let a = start .args in
-    let fits = probe-fits (a .d .now) (a .o) (a .probes .now) (start .pre .1) (c .before .before .before .loop .i) (c .before .before .loop-test .taken) (start .pre .0 .laid) in
-    (start .pre .0, rw (c .last-of .ensures) (c .before .before .before .loop .inv .2), fits)
+known-requires c κs = (c .before .before .before .before .before .before .before .before .before .before .pre .0, rw (c .last-of .ensures) (c .before .before .before .loop .inv .2), probe-there (c .before .before .before .before .before .before .before .before .before .before .pre .0) (c .before .before .before .before .before .before .before .before .before .before .pre .1) _ (c .before .before .loop-test .taken))
 
 array-share-prefix-t : tie.Need-array-share-prefix-t Inv-loop μ-loop
 array-share-prefix-t c = search needs
 
 slice-aggregate-answer-in : tie.Need-slice-aggregate-answer-in Inv-loop μ-loop
-slice-aggregate-answer-in c =
-    let start = c .before .before .before .before .before .before .before .before .before .before .before .before in
-    let a = start .args in
-    let fits = probe-fits (a .d .now) (a .o) (a .probes .now) (start .pre .1) (c .before .before .before .before .before .loop .i) (c .before .before .before .before .loop-test .taken) (start .pre .0 .laid) in
-    table-size (start .pre .0) fits refl (c .before .known .ensures)
+slice-aggregate-answer-in c = probe-size (c .before .before .before .before .before .before .before .before .before .before .before .before .pre .0) (c .before .before .before .before .before .before .before .before .before .before .before .before .pre .1) _ (c .before .before .before .before .loop-test .taken) (c .before .known .ensures)
 
 answer-in-requires : tie.Need-answer-in-requires Inv-loop μ-loop
-answer-in-requires c κs =
-    let start = c .before .before .before .before .before .before .before .before .before .before .before .before in
-    let a = start .args in
-    let fits = probe-fits (a .d .now) (a .o) (a .probes .now) (start .pre .1) (c .before .before .before .before .before .loop .i) (c .before .before .before .before .loop-test .taken) (start .pre .0 .laid) in
-    (fits .ends, table-fits (start .pre .0) fits refl (c .before .known .ensures))
+answer-in-requires c κs = probe-reads (c .before .before .before .before .before .before .before .before .before .before .before .before .pre .0) (c .before .before .before .before .before .before .before .before .before .before .before .before .pre .1) _ (c .before .before .before .before .loop-test .taken) (c .before .known .ensures)
 
 word-of-requires : tie.Need-word-of-requires Inv-loop μ-loop
 word-of-requires c κs = search needs
@@ -80,10 +68,9 @@ loop-again : tie.Need-loop-again Inv-loop μ-loop
 loop-again c =
     let start = c .before .before .before .before .before .before .before .before .before .before .before .before .before .before in
     let a = start .args in
-    let fits = probe-fits (a .d .now) (a .o) (a .probes .now) (start .pre .1) (c .before .before .before .before .before .before .before .loop .i) (c .before .before .before .before .before .before .loop-test .taken) (start .pre .0 .laid) in
-    let said = c .before .answer-in .ensures ∙ answer-is (start .pre .0) fits refl (c .before .before .before .known .ensures) in
+    let said = c .before .answer-in .ensures ∙ probe-says (c .before .before .before .before .before .before .before .before .before .before .before .before .before .before .pre .0) (c .before .before .before .before .before .before .before .before .before .before .before .before .before .before .pre .1) _ (c .before .before .before .before .before .before .loop-test .taken) (c .before .before .before .known .ensures) in
     let word = probe-word (a .d .now) (a .o) (a .probes .now) (start .pre .1) (c .before .before .before .before .before .before .before .loop .i) (c .before .before .before .before .before .before .loop-test .taken) (a .w .now) (c .word-of .ensures) said in
-    (search needs, ap (set (c .before .before .before .before .before .before .before .loop .table) (c .before .before .before .before .before .before .before .loop .i)) word ∙ filled-on (answerWord (a .d .now) (a .o)) (c .before .before .before .before .before .before .before .loop .i) (a .table .now) (c .before .before .before .before .before .before .before .loop .inv .1) refl (omega (arith, start .pre .2)), held-on _ _ _ _ _ _ fits (c .before .before .before .known .ensures))
+    (search needs, ap (set (c .before .before .before .before .before .before .before .loop .table) (c .before .before .before .before .before .before .before .loop .i)) word ∙ filled-on (answerWord (a .d .now) (a .o)) (c .before .before .before .before .before .before .before .loop .i) (a .table .now) (c .before .before .before .before .before .before .before .loop .inv .1) refl (omega (arith, start .pre .2)), probe-held (c .before .before .before .before .before .before .before .before .before .before .before .before .before .before .pre .0) (c .before .before .before .before .before .before .before .before .before .before .before .before .before .before .pre .1) _ (c .before .before .before .before .before .before .loop-test .taken) (c .before .before .before .known .ensures))
 
 same-length : tie.Need-same-length Inv-loop μ-loop
 same-length c = ap length (c .before .loop .inv .1) ∙ filled-length _ _ _ (omega (arith, c .before .before .before .before .before .before .before .before .pre .2))

@@ -13,7 +13,7 @@ use Rattle.promise.specs.Layout.{dossierAt}
 use Rattle.promise.specs.Place.{many}
 use Rattle.evaluation.specs.Held.{Held, lastOf}
 use Rattle.evaluation.specs.declared.Which.the-variants.{Tried}
-use Rattle.evaluation.proofs.Entry.{probe-fits, table-size, table-fits, answer-is, rounds-are, held-none, held-on}
+use Rattle.evaluation.proofs.Entry.{probe-there, probe-size, probe-reads, probe-says, probe-rounds, probe-held, held-none}
 use Rattle.verdict.specs.Told.{asFault, roundsThere}
 use Rattle.verdict.proofs.Lowest.{From, from-start, from-next, from-fault, from-end}
 use Rattle.verdict.proofs.Papers.{probe-told}
@@ -42,45 +42,27 @@ last-of-requires : tie.Need-last-of-requires Inv-loop μ-loop
 last-of-requires c κs = omega (arith, c .before .before .before .before .before .before .before .before .before .pre .1 .long)
 
 known-requires : tie.Need-known-requires Inv-loop μ-loop
-known-requires c κs =
-    let start = c .before .before .before .before .before .before .before .before .before .before in
-    let a = start .args in
-    let fits = probe-fits (a .d .now) (a .o) (a .probes .now) (start .pre .1) (c .before .before .before .loop .i) (c .before .before .loop-test .taken) (start .pre .0 .laid) in
-    (start .pre .0, rw (c .last-of .ensures) (c .before .before .before .loop .inv .1), fits)
+known-requires c κs = (c .before .before .before .before .before .before .before .before .before .before .pre .0, rw (c .last-of .ensures) (c .before .before .before .loop .inv .1), probe-there (c .before .before .before .before .before .before .before .before .before .before .pre .0) (c .before .before .before .before .before .before .before .before .before .before .pre .1) _ (c .before .before .loop-test .taken))
 
 array-share-prefix-t : tie.Need-array-share-prefix-t Inv-loop μ-loop
 array-share-prefix-t c = search needs
 
 slice-aggregate-probe-agrees : tie.Need-slice-aggregate-probe-agrees Inv-loop μ-loop
-slice-aggregate-probe-agrees c =
-    let start = c .before .before .before .before .before .before .before .before .before .before .before .before in
-    let a = start .args in
-    let fits = probe-fits (a .d .now) (a .o) (a .probes .now) (start .pre .1) (c .before .before .before .before .before .loop .i) (c .before .before .before .before .loop-test .taken) (start .pre .0 .laid) in
-    table-size (start .pre .0) fits refl (c .before .known .ensures)
+slice-aggregate-probe-agrees c = probe-size (c .before .before .before .before .before .before .before .before .before .before .before .before .pre .0) (c .before .before .before .before .before .before .before .before .before .before .before .before .pre .1) _ (c .before .before .before .before .loop-test .taken) (c .before .known .ensures)
 
 probe-agrees-requires : tie.Need-probe-agrees-requires Inv-loop μ-loop
 probe-agrees-requires c κs =
-    let start = c .before .before .before .before .before .before .before .before .before .before .before .before in
-    let a = start .args in
-    let fits = probe-fits (a .d .now) (a .o) (a .probes .now) (start .pre .1) (c .before .before .before .before .before .loop .i) (c .before .before .before .before .loop-test .taken) (start .pre .0 .laid) in
-    (omega (arith, start .pre .2 .long), fits .ends, table-fits (start .pre .0) fits refl (c .before .known .ensures))
+    let reads = probe-reads (c .before .before .before .before .before .before .before .before .before .before .before .before .pre .0) (c .before .before .before .before .before .before .before .before .before .before .before .before .pre .1) _ (c .before .before .before .before .loop-test .taken) (c .before .known .ensures) in
+    (omega (arith, c .before .before .before .before .before .before .before .before .before .before .before .before .pre .2 .long), reads .0, reads .1)
 
 array-share-prefix-t-2 : tie.Need-array-share-prefix-t-2 Inv-loop μ-loop
 array-share-prefix-t-2 c = search needs
 
 slice-aggregate-widen : tie.Need-slice-aggregate-widen Inv-loop μ-loop
-slice-aggregate-widen c =
-    let start = c .before .before .before .before .before .before .before .before .before .before .before .before .before .before .before in
-    let a = start .args in
-    let fits = probe-fits (a .d .now) (a .o) (a .probes .now) (start .pre .1) (c .before .before .before .before .before .before .before .before .loop .i) (c .before .before .before .before .before .before .before .loop-test .taken) (start .pre .0 .laid) in
-    table-size (start .pre .0) fits refl (c .before .before .before .before .known .ensures)
+slice-aggregate-widen c = probe-size (c .before .before .before .before .before .before .before .before .before .before .before .before .before .before .before .pre .0) (c .before .before .before .before .before .before .before .before .before .before .before .before .before .before .before .pre .1) _ (c .before .before .before .before .before .before .before .loop-test .taken) (c .before .before .before .before .known .ensures)
 
 widen-requires : tie.Need-widen-requires Inv-loop μ-loop
-widen-requires c κs =
-    let start = c .before .before .before .before .before .before .before .before .before .before .before .before .before .before .before .before in
-    let a = start .args in
-    let fits = probe-fits (a .d .now) (a .o) (a .probes .now) (start .pre .1) (c .before .before .before .before .before .before .before .before .before .loop .i) (c .before .before .before .before .before .before .before .before .loop-test .taken) (start .pre .0 .laid) in
-    omega (arith, start .pre .3, ap length (c .before .before .before .before .before .before .before .before .before .loop .inv .2), table-size (start .pre .0) fits refl (c .before .before .before .before .before .known .ensures))
+widen-requires c κs = omega (arith, c .before .before .before .before .before .before .before .before .before .before .before .before .before .before .before .before .pre .3, ap length (c .before .before .before .before .before .before .before .before .before .loop .inv .2), probe-size (c .before .before .before .before .before .before .before .before .before .before .before .before .before .before .before .before .pre .0) (c .before .before .before .before .before .before .before .before .before .before .before .before .before .before .before .before .pre .1) _ (c .before .before .before .before .before .before .before .before .loop-test .taken) (c .before .before .before .before .before .known .ensures))
 
 same-length : tie.Need-same-length Inv-loop μ-loop
 same-length c = c .before .before .widen .kept .1 .0 ∙ ap length (c .before .before .before .before .before .before .before .before .before .before .before .before .loop .inv .2)
@@ -90,10 +72,8 @@ unfolding asFault roundsThere _is_
 returns c =
     let start = c .before .before .before .before .before .before .before .before .before .before .before .before .before .before .before .before .before .before .before in
     let a = start .args in
-    let fits = probe-fits (a .d .now) (a .o) (a .probes .now) (start .pre .1) (c .before .before .before .before .before .before .before .before .before .before .before .before .loop .i) (c .before .before .before .before .before .before .before .before .before .before .before .loop-test .taken) (start .pre .0 .laid) in
-    let found = c .before .before .before .before .before .before .before .before .known .ensures in
-    let same = c .before .before .before .before .before .before .probe-agrees .ensures ∙ probe-told (a .d .now) (a .o) (a .probes .now) (a .told .now) (a .w .now) (a .k) (start .pre .1) (start .pre .2) (c .before .before .before .before .before .before .before .before .before .before .before .before .loop .i) (c .before .before .before .before .before .before .before .before .before .before .before .loop-test .taken) refl (answer-is (start .pre .0) fits refl found) in
-    (sym (ap asFault (from-fault (probeAgrees (dossierAt (a .d .now) (a .o)) (many (credential (a .o .atoms)) (a .w .now) 2 (a .k))) (a .o .nprobes) (c .before .before .before .before .before .before .before .before .before .before .before .before .loop .i) (c .before .before .before .before .before .before .before .before .before .before .before .before .loop .inv .0) (c .before .before .before .before .before .before .before .before .before .before .before .loop-test .taken) (sym same ∙ not-true _ (c .before .before .before .before .before .if1 .taken)))), rounds-are (start .pre .0) fits refl found _ (rw (c .before .before .before .before .before .before .before .before .before .before .before .before .loop .inv .2) at (c .before .before .widen .ensures)))
+    let same = c .before .before .before .before .before .before .probe-agrees .ensures ∙ probe-told (a .d .now) (a .o) (a .probes .now) (a .told .now) (a .w .now) (a .k) (start .pre .1) (start .pre .2) (c .before .before .before .before .before .before .before .before .before .before .before .before .loop .i) (c .before .before .before .before .before .before .before .before .before .before .before .loop-test .taken) refl (probe-says (c .before .before .before .before .before .before .before .before .before .before .before .before .before .before .before .before .before .before .before .pre .0) (c .before .before .before .before .before .before .before .before .before .before .before .before .before .before .before .before .before .before .before .pre .1) _ (c .before .before .before .before .before .before .before .before .before .before .before .loop-test .taken) (c .before .before .before .before .before .before .before .before .known .ensures)) in
+    (sym (ap asFault (from-fault (probeAgrees (dossierAt (a .d .now) (a .o)) (many (credential (a .o .atoms)) (a .w .now) 2 (a .k))) (a .o .nprobes) (c .before .before .before .before .before .before .before .before .before .before .before .before .loop .i) (c .before .before .before .before .before .before .before .before .before .before .before .before .loop .inv .0) (c .before .before .before .before .before .before .before .before .before .before .before .loop-test .taken) (sym same ∙ not-true _ (c .before .before .before .before .before .if1 .taken)))), probe-rounds (c .before .before .before .before .before .before .before .before .before .before .before .before .before .before .before .before .before .before .before .pre .0) (c .before .before .before .before .before .before .before .before .before .before .before .before .before .before .before .before .before .before .before .pre .1) _ (c .before .before .before .before .before .before .before .before .before .before .before .loop-test .taken) (c .before .before .before .before .before .before .before .before .known .ensures) _ (rw (c .before .before .before .before .before .before .before .before .before .before .before .before .loop .inv .2) at (c .before .before .widen .ensures)))
 
 add-i : tie.Need-add-i Inv-loop μ-loop
 add-i c = omega (arith, c .before .before .before .before .before .before .before .before .before .before .before .before .before .before .pre .0 .laid .few)
@@ -106,10 +86,8 @@ unfolding _is_
 loop-again c =
     let start = c .before .before .before .before .before .before .before .before .before .before .before .before .before .before in
     let a = start .args in
-    let fits = probe-fits (a .d .now) (a .o) (a .probes .now) (start .pre .1) (c .before .before .before .before .before .before .before .loop .i) (c .before .before .before .before .before .before .loop-test .taken) (start .pre .0 .laid) in
-    let found = c .before .before .before .known .ensures in
-    let same = c .before .probe-agrees .ensures ∙ probe-told (a .d .now) (a .o) (a .probes .now) (a .told .now) (a .w .now) (a .k) (start .pre .1) (start .pre .2) (c .before .before .before .before .before .before .before .loop .i) (c .before .before .before .before .before .before .loop-test .taken) refl (answer-is (start .pre .0) fits refl found) in
-    (from-next (probeAgrees (dossierAt (a .d .now) (a .o)) (many (credential (a .o .atoms)) (a .w .now) 2 (a .k))) (a .o .nprobes) (c .before .before .before .before .before .before .before .loop .i) (c .before .before .before .before .before .before .before .loop .inv .0) (c .before .before .before .before .before .before .loop-test .taken) (sym same ∙ not-false _ (c .if1 .left)), held-on _ _ _ _ _ _ fits found, c .before .before .before .before .before .before .before .loop .inv .2)
+    let same = c .before .probe-agrees .ensures ∙ probe-told (a .d .now) (a .o) (a .probes .now) (a .told .now) (a .w .now) (a .k) (start .pre .1) (start .pre .2) (c .before .before .before .before .before .before .before .loop .i) (c .before .before .before .before .before .before .loop-test .taken) refl (probe-says (c .before .before .before .before .before .before .before .before .before .before .before .before .before .before .pre .0) (c .before .before .before .before .before .before .before .before .before .before .before .before .before .before .pre .1) _ (c .before .before .before .before .before .before .loop-test .taken) (c .before .before .before .known .ensures)) in
+    (from-next (probeAgrees (dossierAt (a .d .now) (a .o)) (many (credential (a .o .atoms)) (a .w .now) 2 (a .k))) (a .o .nprobes) (c .before .before .before .before .before .before .before .loop .i) (c .before .before .before .before .before .before .before .loop .inv .0) (c .before .before .before .before .before .before .loop-test .taken) (sym same ∙ not-false _ (c .if1 .left)), probe-held (c .before .before .before .before .before .before .before .before .before .before .before .before .before .before .pre .0) (c .before .before .before .before .before .before .before .before .before .before .before .before .before .before .pre .1) _ (c .before .before .before .before .before .before .loop-test .taken) (c .before .before .before .known .ensures), c .before .before .before .before .before .before .before .loop .inv .2)
 
 same-length-2 : tie.Need-same-length-2 Inv-loop μ-loop
 same-length-2 c = ap length (c .before .loop .inv .2)
