@@ -83,7 +83,7 @@ fn operand_at(s: &[u16], n: usize, lp: usize, end: usize, d: usize, at: usize) -
     }
 }
 
-// The whole formula, at most 16 deep. Most are an atom, for which nothing has to be walked.
+// The whole formula, at most 16 deep. One that begins with an atom is that atom, and nothing has to be walked.
 fn whole_at(s: &[u16], n: usize, lp: usize, end: usize, at: usize) -> Step
     requires { ⌜ end ≤ length (now s) ⌝ }
     ensures { λ r. ⌜ r ≡ asStep (operand n lp end 16 (now (s .entry)) at) ⌝ }

@@ -308,7 +308,7 @@ fn truth_at(s: &[u16], at: usize, deep: usize, table: &[u8]) -> Truth
     }
 }
 
-// The answer of the entry at p, by the table of what holds. Most formulas are an atom, for which nothing has to be walked.
+// The answer of the entry at p, by the table of what holds. For an atom nothing has to be walked.
 pub fn answer_in(d: &[u16], p: usize, table: &[u8]) -> bool
     requires { ⌜ (entryAt (now d) p .next ≤ length (now d)) × FormulaFits (length (now table)) 16 (now d) (entryAt (now d) p .formula) ⌝ }
     ensures { λ r. ⌜ r ≡ readIn (now (d .entry)) p (now (table .entry)) ⌝ }
