@@ -1,4 +1,4 @@
--- The demands of specs/Demands.antt, each under its name in small letters.
+-- That whatever keeps to the table meets demands 2 and 3: `tableEnough`.
 use Prim.Native.Nat.{ℕ, _≤_, _<_}
 use mathlib.Core.Path.{_≡_, refl, sym, ap, _∙_, subst}
 use mathlib.Core.List.{List, [], List·Memᴰ·head, List·Memᴰ·tail}
@@ -40,7 +40,16 @@ use Rattle.evaluation.proofs.Enough.{enough}
 use Rattle.verdict.specs.Told.{showing, replyAt, sizeOf}
 use Rattle.judging.specs.Judge.{Judge, judgeProposal, judgeRead, judgeOf}
 use Rattle.judging.specs.Table.{SoundFor}
-use Rattle.judging.specs.Demands.{SaysOpaque, SaysDetectable, Demand2, Demand3, AnswersMeant, RoundsMeant}
+use Rattle.judging.specs.Entries.{Judging}
+use Rattle.judging.specs.Demands.{Tabled, Demand2, Demand3, TableEnough, AnswersMeant, RoundsMeant}
+use Rattle.judging.proofs.Table.{row-replied}
+
+-- the definition's two acceptances, with a table of so many words
+abbrev SaysOpaque : List ℕ → List ℕ → ℕ → Type 0
+SaysOpaque d c room = judgeOf d c room ≡ accepted verdict.Opaque
+
+abbrev SaysDetectable : List ℕ → List ℕ → ℕ → Type 0
+SaysDetectable d c room = judgeOf d c room ≡ accepted verdict.Detectable
 
 -- ---- a reply tells its outcome
 
@@ -164,11 +173,22 @@ module _ (D : Dossier) (f : DossierForm D) where
 
 -- ---- the demands
 
-pub demand2 : Demand2
-demand2 D C f g room l = (
-  (λ h. shown.demand2 D C meant.opaque .0 (says-opaque _ _ _ _ _ (sym (judged D f C g room l) ∙ h)), λ w. meant-opaque D f _ C refl g room l (shown.demand2 D C meant.opaque .1 w)),
-  (λ h. shown.demand2 D C meant.detectable .0 (says-detectable _ _ _ _ _ (sym (judged D f C g room l) ∙ h)), λ w. meant-detectable D f _ C refl g room l (shown.demand2 D C meant.detectable .1 w)),
-)
+-- an acceptance's row of the table, and whose it is
+opaque-by : (D : Dossier) (C : Certificate) → decoded.When D C meant.opaque ↔ ((W : Policy) × (C ≡ witness W) × decoded.Witnesses D W)
+unfolding decoded.When
+opaque-by D C = (to C, λ (W, e, w). rw e w)
+  where
+    to : (X : Certificate) → decoded.When D X meant.opaque → (W : Policy) × (X ≡ witness W) × decoded.Witnesses D W
+    to (witness W) w = (W, refl, w)
+    to (proof ls) w = absurd w
+
+detectable-by : (D : Dossier) (C : Certificate) → decoded.When D C meant.detectable ↔ ((ls : List Line) × (C ≡ proof ls) × decoded.Proves D ls)
+unfolding decoded.When
+detectable-by D C = (to C, λ (ls, e, w). rw e w)
+  where
+    to : (X : Certificate) → decoded.When D X meant.detectable → (ls : List Line) × (X ≡ proof ls) × decoded.Proves D ls
+    to (witness W) w = absurd w
+    to (proof ls) w = (ls, refl, w)
 
 -- a certificate's soundness does not lose by more credentials, nor a witness's by fewer
 module _ (D E : Dossier) (x : Extends D E) where
@@ -181,14 +201,41 @@ module _ (D E : Dossier) (x : Extends D E) where
   sound-fewer : (W : Policy) → SoundFor E (witness W) → SoundFor D (witness W)
   sound-fewer W s = subst (λ (n : ℕ). CertificateForm n (length (D .creds)) (witness W)) (ap length (x .labels)) (certificateMore .1 (length (E .labels)) (length (E .creds)) (length (D .creds)) W s)
 
-pub demand3 : Demand3
-demand3 =
-    record {
-      every = λ D f c m h. let (ls, e, s, a) = detectable-meant D f c m h in shown.demand3 .every D ls a;
-      proofStays = λ D E x f g c m n l h. let (ls, e, s, a) = detectable-meant D f c m h in meant-detectable E g c (proof ls) e (sound-more D E x (proof ls) s) n l (shown.demand3 .proofStays D E x (well-named D f) ls a);
-      noWitness = λ D E x f g c w m n h i. let (ls, e, s, a) = detectable-meant D f c m h in let (W, e', s', b) = opaque-meant E g w n i in shown.demand3 .noWitness D E x (well-named D f) ls a W b;
-      witnessStays = λ D E x f g q w m n l i. let (W, e, s, b) = opaque-meant E g w m i in meant-opaque D f w (witness W) e (sound-fewer D E x W s) n l (shown.demand3 .witnessStays D E x (well-named D f) q W b);
-    }
+module _ (f : Judging) (tabled : Tabled f) where
+  -- what keeps to the table replies as the definition does
+  same : (d c t : List ℕ) → f d c t .reply ≡ judgeOf d c (length t)
+  same d c t = row-replied d c t (tabled d c t) .0
+
+  demand2 : Demand2 f
+  demand2 D C form sound t l = (
+    (
+      λ h. opaque-by D C .0 (shown.demand2 D C meant.opaque .0 (says-opaque _ _ _ _ _ (sym (judged D form C sound _ l) ∙ sym (same _ _ t) ∙ h))),
+      λ w. same _ _ t ∙ meant-opaque D form _ C refl sound _ l (shown.demand2 D C meant.opaque .1 (opaque-by D C .1 w)),
+    ),
+    (
+      λ h. detectable-by D C .0 (shown.demand2 D C meant.detectable .0 (says-detectable _ _ _ _ _ (sym (judged D form C sound _ l) ∙ sym (same _ _ t) ∙ h))),
+      λ w. same _ _ t ∙ meant-detectable D form _ C refl sound _ l (shown.demand2 D C meant.detectable .1 (detectable-by D C .1 w)),
+    ),
+  )
+
+  demand3 : Demand3 f
+  demand3 =
+      record {
+        every = λ D form c t h. let (ls, e, s, a) = detectable-meant D form c (length t) (sym (same _ _ t) ∙ h) in shown.demand3 .every D ls a;
+        proofStays = λ D E x c t u l h.
+            let (ls, e, s, a) = detectable-meant D (x .before) c (length t) (sym (same _ _ t) ∙ h) in
+            same _ _ u ∙ meant-detectable E (x .after) c (proof ls) e (sound-more D E (x .extends) (proof ls) s) _ l (shown.demand3 .proofStays D E (x .extends) (well-named D (x .before)) ls a);
+        noWitness = λ D E x c w t u h i.
+            let (ls, e, s, a) = detectable-meant D (x .before) c (length t) (sym (same _ _ t) ∙ h) in
+            let (W, e', s', b) = opaque-meant E (x .after) w (length u) (sym (same _ _ u) ∙ i) in
+            shown.demand3 .noWitness D E (x .extends) (well-named D (x .before)) ls a W b;
+        witnessStays = λ D E x q w t u l i.
+            let (W, e, s, b) = opaque-meant E (x .after) w (length t) (sym (same _ _ t) ∙ i) in
+            same _ _ u ∙ meant-opaque D (x .before) w (witness W) e (sound-fewer D E (x .extends) W s) _ l (shown.demand3 .witnessStays D E (x .extends) (well-named D (x .before)) q W b);
+      }
+
+pub tableEnough : TableEnough
+tableEnough f s = (demand2 f s, demand3 f s)
 
 -- ---- the answers
 

@@ -1,6 +1,7 @@
 pub mod Sound
 pub mod Judged
 pub mod Cases
+pub mod Grown
 pub mod Demands
 pub mod Shows
 pub mod Table

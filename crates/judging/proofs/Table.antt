@@ -1,4 +1,4 @@
--- Demand 1: `demand1`.
+-- The table's rows: `oneRow`, `numbers`; what keeps to them, and what the code computes.
 use Prim.Native.Nat.{ℕ, _-_, _<_, _≤_}
 use mathlib.Core.Path.{_≡_, refl, sym, ap, ap₂, _∙_, subst, subst₂}
 use mathlib.Core.List.{List, []}
@@ -40,10 +40,11 @@ use Rattle.judging.specs.Judge.{judgeOf}
 use Rattle.judging.specs.Rounds.{roundsAfter}
 use Rattle.judging.specs.Answers.{countOf, tableOf, answersOf, tableAfter}
 use Rattle.judging.specs.Table.{Both, Long, Row, AnswersRow, partShown}
-use Rattle.judging.specs.Demands.{Demand1}
+use Rattle.judging.specs.Entries.{Judging, Answering}
+use Rattle.judging.specs.Demands.{Tabled, AnswersTabled, OneRow, Numbers}
 use Rattle.judging.specs.declared.Answered.{Answered}
 use Rattle.judging.specs.declared.Answered.the-variants.{Refused}
-use Rattle.judging.proofs.Judged.{Replied, ByProposal, judge-refused, by-dossier, proposal-refused, proposal-short, proposal-meant, answers-refused}
+use Rattle.judging.proofs.Judged.{Replied, Kept, ByProposal, judge-refused, by-dossier, proposal-refused, proposal-short, proposal-meant, answers-refused}
 use Rattle.judging.proofs.Shows.{Stands, entries, probe-stands, secret-stands, line-stands}
 
 -- ---- the rows of form
@@ -109,7 +110,7 @@ module _ {d c : List ℕ} {D : papers.Dossier} {C : papers.Certificate} (b : Bot
 
 module _ (d c t : List ℕ) where
   row-gives : (r : Reply) (us u : List ℕ) → Row d c t r us u → Gives d c t r us u
-  unfolding shownOf replyAt showing nextOf layoutOf proposalOf roundsAt numbered about
+  unfolding shownOf replyAt showing nextOf layoutOf proposalOf roundsAt numbered about When
   row-gives r us u (Row.inDossier s) = gives-of d c t (judge-refused d c t (dossierRows d _ _ us s) refl) (shown-part (row-shows s))
   row-gives r us u (Row.inCertificate D e f s) =
       gives-of d c t
@@ -166,6 +167,13 @@ module _ (d c t : List ℕ) where
       let g = row-gives r us u s in
       subst (λ (v : List ℕ). Row d c t (judgeOf d c (length t)) (shownOf d c (judgeOf d c (length t))) v) (g .2) (subst₂ (λ (x : Reply) (y : List ℕ). Row d c t x y u) (g .0) (g .1 ∙ ap (shownOf d c) (g .0)) s)
 
+  -- what the code has found to be the judge's reply and table is what the row says
+  pub replied-row : {r : Reply} {u : List ℕ} → Replied d c t r u → Row d c t r (shownOf d c r) u
+  replied-row {r} {u} h = subst₂ (λ (x : Reply) (v : List ℕ). Row d c t x (shownOf d c x) v) (sym (h .0)) (sym (h .1)) row
+
+  pub row-replied : {r : Reply} {us u : List ℕ} → Row d c t r us u → Replied d c t r u
+  row-replied s = let g = row-gives _ _ _ s in (g .0, g .2)
+
   -- ---- its number is in the table
 
   row-number : (r : Reply) (us u : List ℕ) → Row d c t r us u → (k : ℕ) → numberOf (r .verdict) ≡ some k → InTable t k
@@ -197,14 +205,14 @@ module _ (d t : List ℕ) where
       let q = le-leb _ _ l in
       (sym (ap (λ (x : Out papers.Dossier). countOf x t) h ∙ (rw q refl)), sym (fits d 0 0 (omega arith)), sym (ap (λ (x : Out papers.Dossier). tableOf x t) h ∙ (rw q refl)))
 
-  abbrev Answering : Type 0
-  Answering = (r : Answered) × ((us : List ℕ) × ((u : List ℕ) × AnswersRow d t r us u))
+  abbrev AnswersApplies : Type 0
+  AnswersApplies = (r : Answered) × ((us : List ℕ) × ((u : List ℕ) × AnswersRow d t r us u))
 
-  by-room : (D : papers.Dossier) → d ≡ codeDossier D → DossierForm D → (b : Bool) → leb (length (D .probes)) (length t) ≡ b → Answering
+  by-room : (D : papers.Dossier) → d ≡ codeDossier D → DossierForm D → (b : Bool) → leb (length (D .probes)) (length t) ≡ b → AnswersApplies
   by-room D e f true q = (_, (_, (_, AnswersRow.count D e f (leb-true _ _ q))))
   by-room D e f false q = (_, (_, (_, AnswersRow.short D e f (leb-false _ _ q))))
 
-  by-form : (out : Out papers.Dossier) → dossier d ≡ out → Answering
+  by-form : (out : Out papers.Dossier) → dossier d ≡ out → AnswersApplies
   by-form (got D q) e = let s = dossierSound d D q e in by-room D (s .0) (s .1) (leb (length (D .probes)) (length t)) refl
   by-form (bad e p w) g = let (us, s, z) = dossierShows d e p w g in (_, (us, (_, AnswersRow.form s)))
 
@@ -214,6 +222,12 @@ module _ (d t : List ℕ) where
       let g = answers-give r us u s in
       subst (λ (v : List ℕ). AnswersRow d t (answersOf d t) (partShown d (answersOf d t)) v) (g .2) (subst₂ (λ (x : Answered) (y : List ℕ). AnswersRow d t x y u) (g .0) (g .1 ∙ ap (partShown d) (g .0)) s)
 
+  pub kept-row : {r : Answered} {u : List ℕ} → Kept d t r u → AnswersRow d t r (partShown d r) u
+  kept-row {r} {u} h = subst₂ (λ (x : Answered) (v : List ℕ). AnswersRow d t x (partShown d x) v) (sym (h .0)) (sym (h .1)) answers-row
+
+  pub row-kept : {r : Answered} {us u : List ℕ} → AnswersRow d t r us u → Kept d t r u
+  row-kept s = let g = answers-give _ _ _ s in (g .0, g .2)
+
   answers-number : (r : Answered) (us u : List ℕ) → AnswersRow d t r us u → (k p w : ℕ) → r ≡ Refused k p w → (1 ≤ k) × (k ≤ 18)
   answers-number r us u (AnswersRow.form {e = e} s) k p w q =
       let n = row-shows s in
@@ -222,18 +236,31 @@ module _ (d t : List ℕ) where
   answers-number r us u (AnswersRow.short D e f l) k p w q = let z : _≡_ {A = ℕ} 18 k = cc in (omega arith, omega arith)
   answers-number r us u (AnswersRow.count D e f l) k p w q = absurd (let z : _≡_ {A = ℕ} 0 1 = cc in omega arith)
 
-numbers : (d c t : List ℕ) (k : ℕ) → numberOf (judgeOf d c (length t) .verdict) ≡ some k → (1 ≤ k) × (k ≤ 18) × (64 ≤ length t → k ≤ 17)
-unfolding InTable
-numbers d c t = row-number d c t (judgeOf d c (length t)) _ _ (row d c t)
-
-pub demand1 : Demand1
-demand1 =
+pub oneRow : OneRow
+oneRow =
     record {
-      row = row;
-      only = row-gives;
-      number = λ d c t k e. let n = numbers d c t k e in (n .0, n .1);
-      enough = λ d c t k l e. numbers d c t k e .2 l;
-      answersRow = answers-row;
-      answersOnly = answers-give;
-      answersNumber = λ d t. answers-number d t (answersOf d t) _ _ (answers-row d t);
+      some = λ d c t. by-words d c t (dossier d) refl;
+      once = λ d c t r q us vs u v m n. let x = row-gives d c t r us u m in let y = row-gives d c t q vs v n in let e = x .0 ∙ sym (y .0) in (e, x .1 ∙ ap (shownOf d c) e ∙ sym (y .1), x .2 ∙ sym (y .2));
+      answersSome = λ d t. by-form d t (dossier d) refl;
+      answersOnce = λ d t r q us vs u v m n. let x = answers-give d t r us u m in let y = answers-give d t q vs v n in let e = x .0 ∙ sym (y .0) in (e, x .1 ∙ ap (partShown d) e ∙ sym (y .1), x .2 ∙ sym (y .2));
     }
+
+pub numbers : Numbers
+unfolding InTable
+numbers = record { judge = row-number; answers = answers-number }
+
+-- ---- what the entries give
+
+unfoldable pub theJudge : Judging
+theJudge d c t = record { reply = judgeOf d c (length t); table = roundsAfter d c t }
+
+unfoldable pub theAnswers : Answering
+theAnswers d t = record { reply = answersOf d t; table = tableAfter d t }
+
+pub judge-tabled : Tabled theJudge
+unfolding theJudge
+judge-tabled = row
+
+pub answers-tabled : AnswersTabled theAnswers
+unfolding theAnswers
+answers-tabled = answers-row

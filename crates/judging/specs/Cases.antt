@@ -2,14 +2,13 @@
 use Prim.Native.Nat.{ℕ}
 use mathlib.Core.Path.{_≡_}
 use mathlib.Core.List.{List, [], _∷_, _++_}
-use lib.ListN.{take, drop}
+use lib.ListN.{length, take, drop}
 use Rattle.meaning.specs.Tests.{_∈_}
 use Rattle.reply.specs.Answer.{accepted, refused}
 use Rattle.reply.specs.declared.Paper.the-variants.{Dossier, Certificate}
 use Rattle.reply.specs.declared.Reply.{Reply}
 use Rattle.reply.specs.declared.Verdict.the-variants.{Opaque, Detectable}
-use Rattle.judging.specs.Judge.{judgeOf}
-use Rattle.judging.specs.Answers.{answersOf, tableAfter}
+use Rattle.judging.specs.Entries.{Judging, Answering}
 use Rattle.judging.specs.declared.Answered.{Answered}
 use Rattle.judging.specs.declared.Answered.the-variants.{Count}
 
@@ -38,39 +37,50 @@ P =
     ∷ 8 ∷ 5 ∷ 2 ∷ 0 ∷ 0 ∷ 0
     ∷ []
 
--- A dossier with a certificate and the judge's reply, with a table of 64 words, as the program lends it; or with a lent table, the reply to it, and what the table then holds.
+-- A dossier with a certificate and the judge's reply, with any table of 64 words; or with a lent table, the reply to it, and what the table then holds.
 pub data Case : Type 0 where
   judged : List ℕ → List ℕ → Reply → Case
   answered : List ℕ → List ℕ → Answered → List ℕ → Case
 
-unfoldable pub Holds : Case → Type 0
-Holds (judged d c reply) = judgeOf d c 64 ≡ reply
-Holds (answered d t reply after) = (answersOf d t ≡ reply) × (tableAfter d t ≡ after)
+-- f and g meet a case
+unfoldable pub Meets : Judging → Answering → Case → Type 0
+Meets f g (judged d c reply) = (t : List ℕ) → length t ≡ 64 → f d c t .reply ≡ reply
+Meets f g (answered d t reply after) = (g d t .reply ≡ reply) × (g d t .table ≡ after)
 
--- In (a) the lent table has a word more than T1 has probes. 01 names no certificate for (i) and (j): P.
+-- (a) "T1's answers are 1, 0, the count 2": the lent table has a word more than T1 has probes. 01 names no certificate for (i) "T1 without its last word" and (j) "T1 with one word
+-- more": P.
+abbrev pub caseA : Case
+caseA = answered T1 (7 ∷ 7 ∷ 7 ∷ []) (Count 2) (1 ∷ 0 ∷ 7 ∷ [])
+
+abbrev pub caseB : Case
+caseB = judged T1 P (accepted Detectable)
+
+abbrev pub caseC : Case
+caseC = judged T2 P (refused 16 Certificate 10 7)
+
+abbrev pub caseD : Case
+caseD = judged T2 (1 ∷ 1 ∷ 2 ∷ 0 ∷ []) (accepted Opaque)
+
+abbrev pub caseE : Case
+caseE = judged T1 (1 ∷ 1 ∷ 2 ∷ 0 ∷ []) (refused 14 Dossier 21 3)
+
+abbrev pub caseF : Case
+caseF = judged T1 (1 ∷ 1 ∷ 0 ∷ 0 ∷ []) (refused 15 Dossier 25 3)
+
+abbrev pub caseG : Case
+caseG = judged T1 (1 ∷ 0 ∷ []) (refused 14 Dossier 17 4)
+
+abbrev pub caseH : Case
+caseH = judged T3 (1 ∷ 0 ∷ []) (accepted Opaque)
+
+abbrev pub caseI : Case
+caseI = judged (take 27 T1) P (refused 1 Dossier 27 0)
+
+abbrev pub caseJ : Case
+caseJ = judged (T1 ++ (0 ∷ [])) P (refused 9 Dossier 28 1)
+
 abbrev pub cases : List Case
-cases =
-    -- (a) "T1's answers are 1, 0, the count 2"
-    answered T1 (7 ∷ 7 ∷ 7 ∷ []) (Count 2) (1 ∷ 0 ∷ 7 ∷ [])
-    -- (b)
-    ∷ judged T1 P (accepted Detectable)
-    -- (c)
-    ∷ judged T2 P (refused 16 Certificate 10 7)
-    -- (d)
-    ∷ judged T2 (1 ∷ 1 ∷ 2 ∷ 0 ∷ []) (accepted Opaque)
-    -- (e)
-    ∷ judged T1 (1 ∷ 1 ∷ 2 ∷ 0 ∷ []) (refused 14 Dossier 21 3)
-    -- (f)
-    ∷ judged T1 (1 ∷ 1 ∷ 0 ∷ 0 ∷ []) (refused 15 Dossier 25 3)
-    -- (g)
-    ∷ judged T1 (1 ∷ 0 ∷ []) (refused 14 Dossier 17 4)
-    -- (h)
-    ∷ judged T3 (1 ∷ 0 ∷ []) (accepted Opaque)
-    -- (i) "T1 without its last word"
-    ∷ judged (take 27 T1) P (refused 1 Dossier 27 0)
-    -- (j) "T1 with one word more"
-    ∷ judged (T1 ++ (0 ∷ [])) P (refused 9 Dossier 28 1)
-    ∷ []
+cases = caseA ∷ caseB ∷ caseC ∷ caseD ∷ caseE ∷ caseF ∷ caseG ∷ caseH ∷ caseI ∷ caseJ ∷ []
 
-abbrev pub CasesHold : Type 0
-CasesHold = (c : Case) → c ∈ cases → Holds c
+abbrev pub CasesHold : Judging → Answering → Type 0
+CasesHold f g = (c : Case) → c ∈ cases → Meets f g c

@@ -9,9 +9,8 @@ use Rattle.meaning.specs.Tests.{at}
 use Rattle.meaning.specs.Policy.{Policy}
 use Rattle.meaning.specs.Papers as papers
 use Rattle.meaning.specs.Papers.{Entry, Line, witness, proof}
-use Rattle.meaning.specs.Verdict as meant
 use Rattle.meaning.specs.Verdict.{roundIn}
-use Rattle.meaning.specs.Demands.{When}
+use Rattle.meaning.specs.Demands.{Lowest, Differs, Fails, Witnesses, KeepsSecret, Proves, EndsOpen}
 use Rattle.promise.specs.Code.{codeEntry, codeLine, codeDossier, codeCertificate}
 use Rattle.promise.specs.Form.{DossierForm, CertificateForm}
 use Rattle.promise.specs.Layout.{probesAt, secretAt}
@@ -53,20 +52,20 @@ pub data Row (d c t : List ℕ) : Reply → List ℕ → List ℕ → Type 0 whe
   -- 18 (A5): "dossier, place 0, empty part", "for proofs and for witnesses that would be accepted too"
   short : (D : papers.Dossier) (C : papers.Certificate) → Both d c D C → length t < length (D .labels) → Row d c t (refused 18 Dossier 0 0) [] t
   -- "For an acceptance: certificate, place 0, empty part."
-  opaque : (D : papers.Dossier) (W : Policy) → Both d c D (witness W) → Long D t → When D (witness W) meant.opaque → Row d c t (accepted Opaque) [] t
-  detectable : (D : papers.Dossier) (ls : List Line) → Both d c D (proof ls) → Long D t → When D (proof ls) meant.detectable → Row d c t (accepted Detectable) [] t
+  opaque : (D : papers.Dossier) (W : Policy) → Both d c D (witness W) → Long D t → Witnesses D W → Row d c t (accepted Opaque) [] t
+  detectable : (D : papers.Dossier) (ls : List Line) → Both d c D (proof ls) → Long D t → Proves D ls → Row d c t (accepted Detectable) [] t
   -- 14: "witness: a probe's answer differs": "that probe in the dossier", probe k, after the probes before it. A5: "the words 0 to n - 1 of the lent table become these numbers,
   -- for the witness with the visible clauses and that probe's or the secret's credentials; words beyond n stay."
-  probe : (D : papers.Dossier) (W : Policy) (k : ℕ) (e : Entry) → Both d c D (witness W) → Long D t → When D (witness W) (meant.probeDiffers k) → at (D .probes) k ≡ some e
+  probe : (D : papers.Dossier) (W : Policy) (k : ℕ) (e : Entry) → Both d c D (witness W) → Long D t → Lowest (Differs D W) k → at (D .probes) k ≡ some e
       → Row d c t (refused 14 Dossier (probesAt D + 1 + length (codeAll codeEntry (take k (D .probes)))) (length (codeEntry e))) (codeEntry e) (filled (roundIn D W e) (length (D .labels)) t)
   -- 15: "when the witness gives the secret the policy's value" (A2): "the secret in the dossier"
-  secret : (D : papers.Dossier) (W : Policy) → Both d c D (witness W) → Long D t → When D (witness W) meant.secretKept
+  secret : (D : papers.Dossier) (W : Policy) → Both d c D (witness W) → Long D t → KeepsSecret D W
       → Row d c t (refused 15 Dossier (secretAt D + 1) (length (codeEntry (D .secret)))) (codeEntry (D .secret)) (filled (roundIn D W (D .secret)) (length (D .labels)) t)
   -- 16: "a line doesn't follow": "that line", line k, after the lines before it
-  line : (D : papers.Dossier) (ls : List Line) (k : ℕ) (l : Line) → Both d c D (proof ls) → Long D t → When D (proof ls) (meant.lineFails k) → at ls k ≡ some l
+  line : (D : papers.Dossier) (ls : List Line) (k : ℕ) (l : Line) → Both d c D (proof ls) → Long D t → Lowest (Fails D ls) k → at ls k ≡ some l
       → Row d c t (refused 16 Certificate (2 + length (codeAll codeLine (take k ls))) (length (codeLine l))) (codeLine l) t
   -- 17: "the last line isn't empty": "that line"
-  last : (D : papers.Dossier) (ls : List Line) (l : Line) → Both d c D (proof ls) → Long D t → When D (proof ls) meant.lastNotEmpty → at ls (length ls - 1) ≡ some l
+  last : (D : papers.Dossier) (ls : List Line) (l : Line) → Both d c D (proof ls) → Long D t → EndsOpen D ls → at ls (length ls - 1) ≡ some l
       → Row d c t (refused 17 Certificate (2 + length (codeAll codeLine (take (length ls - 1) ls))) (length (codeLine l))) (codeLine l) t
 
 -- The answers entry's rows, for the dossier's words d and the table t: the reply, the words of the dossier that are shown, and what the table then holds.

@@ -13,6 +13,8 @@ ghost use Rattle.reply.specs.Answer as said;
 ghost use Rattle.judging.specs.Judge.{judgeOf, Sound, Offered};
 ghost use Rattle.judging.specs.Rounds.{roundsAfter};
 ghost use Rattle.judging.specs.Answers.{answersOf, tableAfter};
+ghost use Rattle.judging.specs.Table.{Row, AnswersRow, partShown};
+ghost use Rattle.reply.specs.Shown.{shownOf};
 
 // What the answers entry replies: the count of answers, or the refusal: its number, its place in the dossier, and how many words it shows.
 pub enum Answered {
@@ -58,7 +60,7 @@ fn judge_with(d: &[u16], o: Layout, c: &[u16], rounds: &mut [u16]) -> Reply
 // first adds it, 0 if none does, for the witness with the visible clauses and the credentials of that probe or of the secret; words beyond
 // stay. Every other reply leaves the table as it was.
 pub fn judge(dossier: &[u16], certificate: &[u16], rounds: &mut [u16]) -> Reply
-    ensures { λ r. ⌜ (r ≡ judgeOf (now (dossier .entry)) (now (certificate .entry)) (length (now (rounds .entry)))) × (now (rounds .exit) ≡ roundsAfter (now (dossier .entry)) (now (certificate .entry)) (now (rounds .entry))) ⌝ }
+    ensures { λ r. ⌜ Row (now (dossier .entry)) (now (certificate .entry)) (now (rounds .entry)) r (shownOf (now (dossier .entry)) (now (certificate .entry)) r) (now (rounds .exit)) ⌝ }
 {
     match dossier::dossier(dossier) {
         Form::Refused(e, p, w) => refused(e, Paper::Dossier, p, w),
@@ -85,7 +87,7 @@ fn answers_with(d: &[u16], o: Layout, table: &mut [u16]) -> Answered
 
 // Every probe's answer, 0 or 1, from the table's start; words beyond stay. A refusal leaves the table as it was.
 pub fn answers(dossier: &[u16], table: &mut [u16]) -> Answered
-    ensures { λ r. ⌜ (r ≡ answersOf (now (dossier .entry)) (now (table .entry))) × (now (table .exit) ≡ tableAfter (now (dossier .entry)) (now (table .entry))) ⌝ }
+    ensures { λ r. ⌜ AnswersRow (now (dossier .entry)) (now (table .entry)) r (partShown (now (dossier .entry)) r) (now (table .exit)) ⌝ }
 {
     match dossier::dossier(dossier) {
         Form::Refused(e, p, w) => Answered::Refused(e, p, w),

@@ -10,12 +10,13 @@ use Rattle.meaning.specs.Papers.{Entry, Dossier, policy, visible, answer
 use Rattle.meaning.specs.Looks.{aim, Detectable, Opaque}
 use Rattle.meaning.specs.Verdict.{opaque, detectable, tried, WitnessAccepted, ProofAccepted}
 use Rattle.meaning.specs.Extends.{Extends, WellNamed}
-use Rattle.meaning.specs.Demands.{HoldsTested, HoldsDerived, RoundsEnough, FirstRounds, TruthTested, LooksLikeItself, AimMeant, DetectableMeant, OpaqueMeant, NotBoth, When, WitnessShows, Demand2, Demand3}
+use Rattle.meaning.specs.Demands.{HoldsTested, HoldsDerived, RoundsEnough, FirstRounds, TruthTested, LooksLikeItself, AimMeant, DetectableTested, OpaqueTested, PolicyIsSet, LineSound, NotBoth, When, WitnessShows, Demand2, Demand3}
 use Rattle.meaning.proofs.Tests.{not-self, not-opposite}
 use Rattle.meaning.proofs.Rounds.{holds-tested, holds-derived, rounds-holds}
 use Rattle.meaning.proofs.First.{first-rounds}
 use Rattle.meaning.proofs.Truth.{truth-tested, value-tested, alike-tested}
-use Rattle.meaning.proofs.Sound.{none-denies}
+use Rattle.meaning.proofs.Sound.{line-sound, none-denies}
+use Rattle.meaning.proofs.Sets.{rounds-same, holding-same, first-same-set, answers-same}
 use Rattle.meaning.proofs.Verdict.{own-visible, tried-visible, judge-exactly}
 use Rattle.meaning.proofs.Extends.{policy-same, aim-same, answer-same, line-up}
 
@@ -44,23 +45,29 @@ pub aimMeant : AimMeant
 unfolding aim
 aimMeant D = value-tested D (policy D) (D .secret) _ .1 refl
 
-pub detectableMeant : DetectableMeant
+pub detectableTested : DetectableTested
 unfolding Detectable aim
-detectableMeant D = (
-  λ d Q l. alike-tested D (policy D) Q (D .secret) .1 (value-tested D Q (D .secret) _ .0 (d Q l)),
-  λ h Q l. value-tested D Q (D .secret) _ .1 (alike-tested D (policy D) Q (D .secret) .0 (h Q l)),
+detectableTested D = (
+  λ d Q l. alike-tested D (policy D) Q (D .secret) .0 (d Q l),
+  λ h Q l. alike-tested D (policy D) Q (D .secret) .1 (h Q l),
 )
 
-pub opaqueMeant : OpaqueMeant
+pub opaqueTested : OpaqueTested
 unfolding Opaque aim
-opaqueMeant D = (
-  λ o. (o .0, o .1, λ y. not-self (aim D) (sym (alike-tested D (policy D) (o .0) (D .secret) .0 y) ∙ value-tested D (o .0) (D .secret) _ .0 (o .2))),
-  λ o. (o .0, o .1, value-tested D (o .0) (D .secret) _ .1 (not-opposite _ _ λ e. o .2 (alike-tested D (policy D) (o .0) (D .secret) .1 (e ∙ Bool·not-not (aim D))))),
+opaqueTested D = (
+  λ o. (o .0, o .1, not-opposite _ _ λ e. o .2 (alike-tested D (policy D) (o .0) (D .secret) .1 (e ∙ Bool·not-not (aim D)))),
+  λ o. (o .0, o .1, λ y. not-self (aim D) (sym (alike-tested D (policy D) (o .0) (D .secret) .0 y) ∙ o .2)),
 )
 
 pub notBoth : NotBoth
 unfolding Detectable Opaque
-notBoth D d (Q, l, v) = not-self (aim D) (sym (value-tested D Q (D .secret) _ .0 (d Q l)) ∙ value-tested D Q (D .secret) _ .0 v)
+notBoth D d (Q, l, v) = v (d Q l)
+
+pub policyIsSet : PolicyIsSet
+policyIsSet = record { rounds = rounds-same; holding = holding-same; first = first-same-set; answers = answers-same }
+
+pub lineSound : LineSound
+lineSound = line-sound
 
 pub demand2 : Demand2
 demand2 = judge-exactly
@@ -68,10 +75,10 @@ demand2 = judge-exactly
 -- ---- demand 3
 
 every : (D : Dossier) (lines : List Line) → ProofAccepted D lines → Detectable D
-unfolding Detectable When
+unfolding Detectable When aim
 every D lines h Q l =
     let (each, last) = judge-exactly D (proof lines) detectable .0 h in
-    value-tested D Q (D .secret) _ .1 (not-opposite (answer D Q (D .secret)) (aim D) λ e. none-denies D Q l e lines each last)
+    alike-tested D (policy D) Q (D .secret) .1 (not-opposite (answer D Q (D .secret)) (aim D) λ e. none-denies D Q l e lines each last)
 
 pub witnessShows : WitnessShows
 unfolding Opaque When
@@ -94,7 +101,7 @@ module _ (D E : Dossier) (x : Extends D E) (wn : WellNamed D) where
     entry-same e m = rw tried-same (answer-same D E x wn (tried D W) e m)
 
     witness-stays : WitnessAccepted E W → WitnessAccepted D W
-    unfolding When
+    unfolding When aim
     witness-stays h =
         let (l, v) = judge-exactly E (witness W) opaque .0 h in
         judge-exactly D (witness W) opaque .1 (
@@ -107,12 +114,12 @@ module _ (D E : Dossier) (x : Extends D E) (wn : WellNamed D) where
                 ∙ (rw (policy-same D E x wn) (answer-same D E x wn (policy D) e (List·Memᴰ·tail m)))
                 );
           },
-          value-tested D (tried D W) (D .secret) _ .1 (
-              sym (entry-same (D .secret) (List·Memᴰ·head refl))
-              ∙ ap (answer E (tried E W)) (sym (x .secret))
-              ∙ value-tested E (tried E W) (E .secret) _ .0 v
-              ∙ ap not (aim-same D E x wn)
-              ),
+          λ y. v (alike-tested E (policy E) (tried E W) (E .secret) .1 (
+              ap (answer E (tried E W)) (x .secret)
+              ∙ entry-same (D .secret) (List·Memᴰ·head refl)
+              ∙ alike-tested D (policy D) (tried D W) (D .secret) .0 y
+              ∙ sym (aim-same D E x wn)
+              )),
         )
 
 pub demand3 : Demand3

@@ -3,6 +3,7 @@ pub mod Rounds
 pub mod First
 pub mod Truth
 pub mod Sound
+pub mod Sets
 pub mod Verdict
 pub mod Extends
 pub mod Demands

@@ -1,30 +1,31 @@
 -- Each rule is sound: a line that follows has a true literal in every policy that looks the same and denies what a proof shows.
 use mathlib.Core.Path.{_≡_, refl, sym, ap, _∙_, subst}
-use mathlib.Core.Bool.{Bool, true, false, not, false≢true, true≢false}
+use mathlib.Core.Bool.{Bool, true, false, not, false≢true, true≢false, Bool·not-not}
 use mathlib.Core.List.{List, [], _∷_, List·Memᴰ·head, List·Memᴰ·tail, List·Memᴰ·not-nil}
 use mathlib.Core.Option.{Option, none, some}
-use mathlib.Core.Logic.{_⊎_, inl, inr, _↔_}
+use mathlib.Core.Logic.{_⊎_, inl, inr, ⊎-elim, _↔_}
 use Prim.Native.Nat.{ℕ, zero, suc, _<_, _-_}
 use native.Mathlib.Omega.{arith}
 use native.Mathlib.Decide.{ℕ-discrete}
 use lib.ListN.{length}
 use Rattle.meaning.specs.Tests.{_∈_, _and_, _or_, agree, _is_, all, any, mem, at, named, choose}
 use Rattle.meaning.specs.Policy.{Clause, Policy}
-use Rattle.meaning.specs.Formula.{Formula, always, atom, neg, conj, disj, read, joined, given, truth}
+use Rattle.meaning.specs.Formula.{Formula, always, atom, neg, conj, disj, read, joined, Given, given, truth}
 use Rattle.meaning.specs.Papers.{Marked, Dossier, policy, visible, answer, Statement, Literal, Rule, Line}
-use Rattle.meaning.specs.Looks.{Has, LookTheSame, aim}
+use Rattle.meaning.specs.Looks.{Has, LookTheSame, aim, TrueLiteral, TrueLine}
 use Rattle.meaning.specs.Rules.{sameStatement, supposed, not₃, and₃, or₃, value, _gives_, isIn, denied, fires, claims, omit, others, follows, earlier, lineFollows}
 use Rattle.meaning.specs.Verdict.{lastEmpty}
-use Rattle.meaning.proofs.Tests.{clash, not-true, not-self, not-opposite, and-both, and-of, and-five, or-cases, agree→≡, agree-not, is→≡, is-refl, same→≡, same-refl, all-at, any-at, none-at, keep-at, keep-of, map-of, named-at, named-is, at-mem, at-below, at-take, mem-at}
-use Rattle.meaning.proofs.Rounds.{ClosedIn, holds-closed, holds-least}
-use Rattle.meaning.proofs.Truth.{alike-tested, joined-policy, joined-cred, joined-fact, joined-closed}
+use Rattle.meaning.specs.Demands.{LineSound}
+use Rattle.meaning.proofs.Tests.{clash, not-true, not-self, not-opposite, and-both, and-of, and-five, or-cases, agree→≡, agree-of, agree-not, is→≡, is-refl, same→≡, same-refl, all-at, any-at, any-of, none-at, keep-at, keep-of, map-of, named-at, named-is, at-mem, at-below, at-take, mem-at}
+use Rattle.meaning.proofs.Rounds.{ClosedIn, holds-closed, holds-least, holds-tested}
+use Rattle.meaning.proofs.Truth.{value-test, alike-tested, joined-policy, joined-cred, joined-fact, joined-closed}
 
 -- ---- what is given
 
 pub has-own : {P : Policy} {c : Clause} → c ∈ P → Has P c
 has-own {c = c} m = record { own = c; there = m; head = refl; body = λ b. (λ h. h, λ h. h) }
 
-has-joined : (cs : List Clause) (Q : Policy) (S X : List ℕ) {c : Clause} → Has Q c → Has (joined cs Q S X) c
+pub has-joined : (cs : List Clause) (Q : Policy) (S X : List ℕ) {c : Clause} → Has Q c → Has (joined cs Q S X) c
 has-joined cs Q S X h = record { own = h .own; there = joined-policy cs Q S X (h .there); head = h .head; body = h .body }
 
 module _ (cs : List Clause) (Q : Policy) (S X : List ℕ) where
@@ -51,8 +52,22 @@ module _ (cs : List Clause) (Q : Policy) (S X : List ℕ) where
 abbrev says : List Clause → Policy → Statement → Bool
 says cs Q s = given cs Q (s .creds) (s .atoms) (s .atom)
 
+-- the test of what a literal says
 unfoldable pub trueIn : List Clause → Policy → Literal → Bool
 trueIn cs Q l = agree (l .positive) (says cs Q (l .said))
+
+says-tested : (D : Dossier) (Q : Policy) (l : Literal) → TrueLiteral D Q l ↔ (trueIn (D .creds) Q l ≡ true)
+unfolding TrueLiteral trueIn Given given
+says-tested D Q l =
+    let t = value-test (holds-tested (joined (D .creds) Q (l .said .creds) (l .said .atoms)) (l .said .atom)) (l .positive) in
+    (λ s. agree-of (sym (t .0 s)), λ h. t .1 (sym (agree→≡ h)))
+
+true-tested : (D : Dossier) (Q : Policy) (l : Line) → TrueLine D Q l ↔ (any (trueIn (D .creds) Q) (l .literals) ≡ true)
+unfolding TrueLine
+true-tested D Q l = (
+  λ t. any-of _ (t .1) (says-tested D Q (t .0) .0 (t .2)),
+  λ h. let r = any-at _ (l .literals) h in (r .0, r .1, says-tested D Q (r .0) .1 (r .2)),
+)
 
 pub sameStatement→≡ : {s t : Statement} → sameStatement s t ≡ true → s ≡ t
 unfolding sameStatement
@@ -65,7 +80,7 @@ pub sameStatement-refl : (s : Statement) → sameStatement s s ≡ true
 unfolding sameStatement
 sameStatement-refl s = and-of (and-of (same-refl (s .creds)) (same-refl (s .atoms))) (is-refl (s .atom))
 
-isIn-at : (ls : List Literal) {l : Literal} → isIn ls l ≡ true → l ∈ ls
+pub isIn-at : (ls : List Literal) {l : Literal} → isIn ls l ≡ true → l ∈ ls
 unfolding isIn
 isIn-at ls {l} h =
     let r = any-at _ ls h in
@@ -122,7 +137,7 @@ fits-or : (o p : Option Bool) (a b : Bool) → Fits o a → Fits p b → Fits (o
 unfolding or₃
 fits-or o p a b f g = rw (or-and a b) (fits-not (fits-and (not₃ o) (not₃ p) (fits-not f) (fits-not g)))
 
-supposed-at : (ls : List Literal) (s : Statement) {v : Bool} → supposed ls s ≡ some v → (l : Literal) × l ∈ ls × (l .said ≡ s) × (not (l .positive) ≡ v)
+pub supposed-at : (ls : List Literal) (s : Statement) {v : Bool} → supposed ls s ≡ some v → (l : Literal) × l ∈ ls × (l .said ≡ s) × (not (l .positive) ≡ v)
 unfolding supposed choose
 supposed-at [] s {v} h = absurd (true≢false (cc))
 supposed-at (l ∷ ls) s {v} h = go (sameStatement (l .said) s) refl h (λ k. supposed-at ls s k)
@@ -131,7 +146,7 @@ supposed-at (l ∷ ls) s {v} h = go (sameStatement (l .said) s) refl h (λ k. su
     go true e k ih = (l, List·Memᴰ·head refl, sameStatement→≡ e, cc)
     go false e k ih = let r = ih k in (r .0, List·Memᴰ·tail (r .1), r .2, r .3)
 
-gives→≡ : (o : Option Bool) (b : Bool) → o gives b ≡ true → o ≡ some b
+pub gives→≡ : (o : Option Bool) (b : Bool) → o gives b ≡ true → o ≡ some b
 unfolding _gives_
 gives→≡ none b h = absurd (false≢true h)
 gives→≡ (some a) b h = ap {B = Option Bool} some (agree→≡ h)
@@ -252,34 +267,34 @@ module _ (D : Dossier) (Q : Policy) (looks : LookTheSame D (policy D) Q) (denies
   unfolding visible
   shows i {m} e v = looks .second (m .clause) (map-of (λ (x : Marked). x .clause) (keep-of (λ (x : Marked). x .visible) (at-mem _ i e) v))
 
-  module _ (before : List Line) (cited : (u : ℕ) (l : Line) → at before u ≡ some l → True l) (ls : List Literal) where
-    refute : (r : Rule) → follows D before ls r ≡ true → any (trueIn (D .creds) Q) ls ≡ false → ⊥
+  module _ (before : List Line) (ls : List Literal) where
+    refute : (r : Rule) → ((u v i j : ℕ) → r ≡ Rule.resolve u v i j → (m : Line) → (at before u ≡ some m) ⊎ (at before v ≡ some m) → True m) → follows D before ls r ≡ true → any (trueIn (D .creds) Q) ls ≡ false → ⊥
     unfolding follows answer True
-    refute (Rule.probe k) h f =
+    refute (Rule.probe k) cited h f =
         let (e, ee, v) = named-at _ _ h in
         not-self (answer D (policy D) e) (sym (alike-tested D (policy D) Q e .0 (looks .alike e (at-mem _ _ ee))) ∙ value-fits (D .creds) Q ls f (e .creds) (e .formula) (not (answer D (policy D) e)) (gives→≡ _ _ v))
-    refute Rule.secret h f =
+    refute Rule.secret cited h f =
         not-self (aim D) (sym (value-fits (D .creds) Q ls f (D .secret .creds) (D .secret .formula) (aim D) (gives→≡ _ _ h)) ∙ denies)
-    refute (Rule.clause i j) h f =
+    refute (Rule.clause i j) cited h f =
         let (m, em, g) = named-at _ _ h in
         let (l, el, v) = named-at _ _ g in
         let q = and-both v in
         fires-false (D .creds) Q ls f (m .clause) (has-joined (D .creds) Q (l .said .creds) (l .said .atoms) (shows i em (q .0))) (at-mem _ _ el) (q .1)
-    refute (Rule.assumed j) h f =
+    refute (Rule.assumed j) cited h f =
         let (l, el, v) = named-at _ _ h in
         let q = and-both v in
         assumed-false (D .creds) Q ls f (at-mem _ _ el) (q .0) (q .1)
-    refute (Rule.credential c j) h f =
+    refute (Rule.credential c j) cited h f =
         let (d, ed, g) = named-at _ _ h in
         let (l, el, v) = named-at _ _ g in
         let q = and-both v in
         fires-false (D .creds) Q ls f d (has-own (joined-cred (D .creds) Q (l .said .creds) (l .said .atoms) (mem-at (q .0)) ed)) (at-mem _ _ el) (q .1)
-    refute (Rule.cut j i) h f =
+    refute (Rule.cut j i) cited h f =
         let (l, el, g) = named-at _ _ h in
         let (m, em, v) = named-at _ _ g in
         let (plus, minus, on, ax, ac) = and-five v in
         cut-false (D .creds) Q ls f (at-mem _ _ el) (at-mem _ _ em) plus (not-true _ minus) (is→≡ on) ax ac
-    refute (Rule.without c i j k) h f =
+    refute (Rule.without c i j k) cited h f =
         let (d, ed, g₁) = named-at _ _ h in
         let (m, em, g₂) = named-at _ _ g₁ in
         let (l, el, g₃) = named-at _ _ g₂ in
@@ -287,18 +302,18 @@ module _ (D : Dossier) (Q : Policy) (looks : LookTheSame D (policy D) Q) (denies
         let (most, inBody) = and-both v in
         let (minus, has, claimsJ, on, claimsK) = and-five most in
         without-false (D .creds) Q ls f c ed (at-mem _ _ em) (at-mem _ _ el) (at-mem _ _ et) (not-true _ minus) claimsJ (is→≡ on) claimsK inBody
-    refute (Rule.resolve u v i j) h f =
+    refute (Rule.resolve u v i j) cited h f =
         let (a, ea, g₁) = named-at _ _ h in
         let (b, eb, g₂) = named-at _ _ g₁ in
         let (p, ep, g₃) = named-at _ _ g₂ in
         let (q, eq, w) = named-at _ _ g₃ in
         let (plus, minus, one, inA, inB) = and-five w in
         clash
-        (pivot-true (D .creds) Q ls f (a .literals) i (cited u a ea) ep inA plus)
-        (ap (says (D .creds) Q) (sameStatement→≡ one) ∙ pivot-true (D .creds) Q ls f (b .literals) j (cited v b eb) eq inB (not-true _ minus))
+        (pivot-true (D .creds) Q ls f (a .literals) i (cited u v i j refl a (inl ea)) ep inA plus)
+        (ap (says (D .creds) Q) (sameStatement→≡ one) ∙ pivot-true (D .creds) Q ls f (b .literals) j (cited u v i j refl b (inr eb)) eq inB (not-true _ minus))
 
-    rule-sound : (r : Rule) → follows D before ls r ≡ true → any (trueIn (D .creds) Q) ls ≡ true
-    rule-sound r h = not-opposite _ true (refute r h)
+    rule-sound : (r : Rule) → ((u v i j : ℕ) → r ≡ Rule.resolve u v i j → (m : Line) → (at before u ≡ some m) ⊎ (at before v ≡ some m) → True m) → follows D before ls r ≡ true → any (trueIn (D .creds) Q) ls ≡ true
+    rule-sound r cited h = not-opposite _ true (refute r cited h)
 
   -- ---- so an accepted proof leaves no such policy
 
@@ -312,7 +327,8 @@ module _ (D : Dossier) (Q : Policy) (looks : LookTheSame D (policy D) Q) (denies
         go : Dec (j ≡ k) → ((i : ℕ) (m : Line) → i < k → at lines i ≡ some m → True m) → True l
         go (no ne) ih = ih j l (omega arith) e
         go (yes q) ih =
-            rule-sound (earlier lines k) (λ u a ea. let r = earlier-at lines k u ea in ih u a (r .0) (r .1)) (l .literals) (l .rule)
+            rule-sound (earlier lines k) (l .literals) (l .rule)
+            (λ u v i j e m o. ⊎-elim (λ ea. let r = earlier-at lines k u ea in ih u m (r .0) (r .1)) (λ ea. let r = earlier-at lines k v ea in ih v m (r .0) (r .1)) o)
             (sym (named-is _ (rw q at e)) ∙ each k (rw q at (at-below lines j e)))
 
     pub none-denies : lastEmpty lines ≡ true → ⊥
@@ -324,3 +340,9 @@ module _ (D : Dossier) (Q : Policy) (looks : LookTheSame D (policy D) Q) (denies
         empty : (ls : List Literal) → length ls ≡ 0 → any (trueIn (D .creds) Q) ls ≡ true → ⊥
         empty [] q t = false≢true t
         empty (x ∷ ls) q t = omega arith
+
+pub line-sound : LineSound
+unfolding aim True
+line-sound D Q looks other before l cited h =
+    let denies : answer D Q (D .secret) ≡ not (aim D) = not-opposite _ _ λ e. other (alike-tested D (policy D) Q (D .secret) .1 (e ∙ Bool·not-not (aim D))) in
+    true-tested D Q l .1 (rule-sound D Q looks denies before (l .literals) (l .rule) (λ u v i j e m o. true-tested D Q m .0 (cited u v i j e m o)) h)

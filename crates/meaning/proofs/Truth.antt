@@ -47,15 +47,19 @@ truth-tested cs P S (disj f g) = tests-or (truth-tested cs P S f) (truth-tested 
 
 -- ---- answers
 
+-- what b tests has the value that b is
+pub value-test : {A : Type 0} {b : Bool} → Tests b A → (v : Bool) → Value v A ↔ (b ≡ v)
+unfolding Value
+value-test t true = t
+value-test t false = (λ h. sym (together (λ z. absurd (false≢true z)) (λ z. absurd (h (t .1 z)))), λ h y. clash (t .0 y) h)
+
 module _ (D : Dossier) where
   pub yes-tested : (P : Policy) (e : Entry) → Yes D P e ↔ (answer D P e ≡ true)
   unfolding Yes answer
   yes-tested P e = truth-tested (D .creds) P (e .creds) (e .formula)
 
   pub value-tested : (P : Policy) (e : Entry) (b : Bool) → Value b (Yes D P e) ↔ (answer D P e ≡ b)
-  unfolding Value
-  value-tested P e true = yes-tested P e
-  value-tested P e false = (λ h. sym (together (λ z. absurd (false≢true z)) (λ z. absurd (h (yes-tested P e .1 z)))), λ h y. clash (yes-tested P e .0 y) h)
+  value-tested P e = value-test (yes-tested P e)
 
   pub alike-tested : (P Q : Policy) (e : Entry) → (Yes D P e ↔ Yes D Q e) ↔ (answer D Q e ≡ answer D P e)
   alike-tested P Q e = (

@@ -1,6 +1,6 @@
 -- Demand 2: each outcome is given exactly when the table says so.
 use mathlib.Core.Path.{_≡_, refl, sym, _∙_}
-use mathlib.Core.Bool.{Bool, true, false, not}
+use mathlib.Core.Bool.{Bool, true, false, not, Bool·not-not}
 use mathlib.Core.List.{List, Memᴰ·append-right}
 use mathlib.Core.Option.{Option, none, some}
 use mathlib.Core.Logic.{_↔_}
@@ -9,13 +9,13 @@ use native.Mathlib.Omega.{arith}
 use lib.ListN.{length}
 use Rattle.meaning.specs.Tests.{_∈_, agree, at, choose, lowest}
 use Rattle.meaning.specs.Policy.{Clause, Policy}
-use Rattle.meaning.specs.Papers.{Entry, Marked, Dossier, policy, visible, Yes, answer, Line, Certificate, witness, proof}
-use Rattle.meaning.specs.Looks.{Has, LookTheSame, Value, aim}
+use Rattle.meaning.specs.Papers.{Entry, Marked, Dossier, policy, visible, answer, Line, Certificate, witness, proof}
+use Rattle.meaning.specs.Looks.{Has, Alike, LookTheSame, aim}
 use Rattle.meaning.specs.Rules.{lineFollows}
 use Rattle.meaning.specs.Verdict.{Outcome, opaque, detectable, probeDiffers, secretKept, lineFails, lastNotEmpty, tried, probeAgrees, lastEmpty, decide, judge}
 use Rattle.meaning.specs.Demands.{Lowest, Differs, Fails, When}
 use Rattle.meaning.proofs.Tests.{clash, not-self, not-opposite, agree→≡, agree-of, keep-at, map-of, map-at, named-is, at-mem, mem-index, at-below, below-at, Found, lowest-found, found-once}
-use Rattle.meaning.proofs.Truth.{value-tested, alike-tested}
+use Rattle.meaning.proofs.Truth.{alike-tested}
 use Rattle.meaning.proofs.Sound.{has-own}
 
 -- ---- visible clauses
@@ -93,16 +93,18 @@ module _ (D : Dossier) (W : Policy) where
   abbrev hides : Bool
   hides = agree (answer D (tried D W) (D .secret)) (not (aim D))
 
-  hides-true : (hides ≡ true) ↔ Value (not (aim D)) (Yes D (tried D W) (D .secret))
+  hides-true : (hides ≡ true) ↔ (Alike D (D .secret) (policy D) (tried D W) → ⊥)
+  unfolding aim
   hides-true = (
-    λ h. value-tested D (tried D W) (D .secret) _ .1 (agree→≡ h),
-    λ v. agree-of (value-tested D (tried D W) (D .secret) _ .0 v),
+    λ h y. not-self (aim D) (sym (alike-tested D (policy D) (tried D W) (D .secret) .0 y) ∙ agree→≡ h),
+    λ f. agree-of (not-opposite _ _ λ e. f (alike-tested D (policy D) (tried D W) (D .secret) .1 (e ∙ Bool·not-not (aim D)))),
   )
 
-  hides-false : (hides ≡ false) ↔ Value (aim D) (Yes D (tried D W) (D .secret))
+  hides-false : (hides ≡ false) ↔ Alike D (D .secret) (policy D) (tried D W)
+  unfolding aim
   hides-false = (
-    λ h. value-tested D (tried D W) (D .secret) _ .1 (not-opposite _ (aim D) (λ e. clash (agree-of e) h)),
-    λ v. not-opposite hides false (λ t. not-self (aim D) (sym (value-tested D (tried D W) (D .secret) _ .0 v) ∙ agree→≡ t)),
+    λ h. alike-tested D (policy D) (tried D W) (D .secret) .1 (not-opposite _ (aim D) (λ e. clash (agree-of e) h)),
+    λ y. not-opposite hides false (λ t. not-self (aim D) (sym (alike-tested D (policy D) (tried D W) (D .secret) .0 y) ∙ agree→≡ t)),
   )
 
 -- ---- lines

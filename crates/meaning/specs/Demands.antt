@@ -3,15 +3,15 @@ use mathlib.Core.Path.{_≡_}
 use mathlib.Core.Bool.{true, false, not}
 use mathlib.Core.List.{List, []}
 use mathlib.Core.Option.{some}
-use mathlib.Core.Logic.{_↔_}
+use mathlib.Core.Logic.{_↔_, _⊎_}
 use Prim.Native.Nat.{ℕ, suc, _<_, _≤_}
 use lib.ListN.{length}
 use Rattle.meaning.specs.Tests.{_∈_, at}
 use Rattle.meaning.specs.Policy.{Clause, Policy, after, Holds, holds, firstRound, Derivable}
 use Rattle.meaning.specs.Formula.{Formula, Truth, truth}
-use Rattle.meaning.specs.Papers.{Entry, Dossier, policy, Yes, Line, Certificate, witness, proof}
-use Rattle.meaning.specs.Looks.{LookTheSame, Value, aim, Detectable, Opaque}
-use Rattle.meaning.specs.Rules.{lineFollows}
+use Rattle.meaning.specs.Papers.{Entry, Dossier, policy, Yes, answer, Rule, resolve, Line, Certificate, witness, proof}
+use Rattle.meaning.specs.Looks.{Has, Alike, LookTheSame, Detectable, Opaque, aim, Value, TrueLine}
+use Rattle.meaning.specs.Rules.{follows, lineFollows}
 use Rattle.meaning.specs.Verdict.{Outcome, opaque, detectable, probeDiffers, secretKept, lineFails, lastNotEmpty, tried, lastEmpty, judge, WitnessAccepted, ProofAccepted}
 use Rattle.meaning.specs.Extends.{Extends, WellNamed}
 
@@ -58,6 +58,18 @@ pub record FirstRounds : Type 0 where
   -- and each atom that has a number is first added by such a clause
   pub added : (P : Policy) (a k : ℕ) → firstRound P a ≡ suc k → (c : Clause) × (c .head ≡ a) × FirstAdds P c k
 
+-- "A policy is a finite set of clauses": two that have each other's clauses
+pub record SameSet (P Q : Policy) : Type 0 where
+  pub there : (c : Clause) → c ∈ P → Has Q c
+  pub back : (c : Clause) → c ∈ Q → Has P c
+
+-- have the same atoms after each round, and answer every entry alike
+pub record PolicyIsSet : Type 0 where
+  pub rounds : (P Q : Policy) → SameSet P Q → (k a : ℕ) → after P k a ≡ after Q k a
+  pub holding : (P Q : Policy) → SameSet P Q → (a : ℕ) → Holds P a ↔ Holds Q a
+  pub first : (P Q : Policy) → SameSet P Q → (a : ℕ) → firstRound P a ≡ firstRound Q a
+  pub answers : (D : Dossier) (P Q : Policy) → SameSet P Q → (e : Entry) → Alike D e P Q
+
 -- The test `truth` is right.
 abbrev pub TruthTested : Type 0
 TruthTested = (cs : List Clause) (P : Policy) (S : List ℕ) (f : Formula) → Truth cs P S f ↔ (truth cs P S f ≡ true)
@@ -68,13 +80,12 @@ TruthTested = (cs : List Clause) (P : Policy) (S : List ℕ) (f : Formula) → T
 abbrev pub AimMeant : Type 0
 AimMeant = (D : Dossier) → Value (aim D) (Yes D (policy D) (D .secret))
 
--- "every policy that looks the same gives the secret the value it has in the dossier's policy", with no test
-abbrev pub DetectableMeant : Type 0
-DetectableMeant = (D : Dossier) → Detectable D ↔ ((Q : Policy) → LookTheSame D (policy D) Q → (Yes D (policy D) (D .secret) ↔ Yes D Q (D .secret)))
+-- detectable and opaque, by the test
+abbrev pub DetectableTested : Type 0
+DetectableTested = (D : Dossier) → Detectable D ↔ ((Q : Policy) → LookTheSame D (policy D) Q → answer D Q (D .secret) ≡ aim D)
 
--- opaque: one does not
-abbrev pub OpaqueMeant : Type 0
-OpaqueMeant = (D : Dossier) → Opaque D ↔ ((Q : Policy) × LookTheSame D (policy D) Q × ((Yes D (policy D) (D .secret) ↔ Yes D Q (D .secret)) → ⊥))
+abbrev pub OpaqueTested : Type 0
+OpaqueTested = (D : Dossier) → Opaque D ↔ ((Q : Policy) × LookTheSame D (policy D) Q × (answer D Q (D .secret) ≡ not (aim D)))
 
 abbrev pub LooksLikeItself : Type 0
 LooksLikeItself = (D : Dossier) → LookTheSame D (policy D) (policy D)
@@ -86,7 +97,7 @@ NotBoth = (D : Dossier) → Detectable D → Opaque D → ⊥
 
 -- probe k is not answered by the policy tried as by the dossier's
 abbrev pub Differs : Dossier → Policy → ℕ → Type 0
-Differs D W k = (e : Entry) × (at (D .probes) k ≡ some e) × ((Yes D (policy D) e ↔ Yes D (tried D W) e) → ⊥)
+Differs D W k = (e : Entry) × (at (D .probes) k ≡ some e) × (Alike D e (policy D) (tried D W) → ⊥)
 
 -- line k does not follow
 abbrev pub Fails : Dossier → List Line → ℕ → Type 0
@@ -95,17 +106,31 @@ Fails D lines k = (k < length lines) × (lineFollows D lines k ≡ false)
 abbrev pub EachFollows : Dossier → List Line → Type 0
 EachFollows D lines = (k : ℕ) → k < length lines → lineFollows D lines k ≡ true
 
+-- "with the visible clauses, it answers every probe as the dossier's policy does and" gives the secret "the opposite value" (A2); or the same
+abbrev pub Witnesses : Dossier → Policy → Type 0
+Witnesses D W = LookTheSame D (policy D) (tried D W) × (Alike D (D .secret) (policy D) (tried D W) → ⊥)
+
+abbrev pub KeepsSecret : Dossier → Policy → Type 0
+KeepsSecret D W = LookTheSame D (policy D) (tried D W) × Alike D (D .secret) (policy D) (tried D W)
+
+-- "each line follows by its stated rule and the last is empty"; or it is not
+abbrev pub Proves : Dossier → List Line → Type 0
+Proves D lines = EachFollows D lines × (lastEmpty lines ≡ true)
+
+abbrev pub EndsOpen : Dossier → List Line → Type 0
+EndsOpen D lines = EachFollows D lines × (lastEmpty lines ≡ false)
+
 -- When each outcome is given: the rows of 01's table, 14 to 17, and the two acceptances of demand 2.
 unfoldable pub When : Dossier → Certificate → Outcome → Type 0
-When D (witness W) opaque = LookTheSame D (policy D) (tried D W) × Value (not (aim D)) (Yes D (tried D W) (D .secret))
+When D (witness W) opaque = Witnesses D W
 When D (witness W) (probeDiffers k) = Lowest (Differs D W) k
-When D (witness W) secretKept = LookTheSame D (policy D) (tried D W) × Value (aim D) (Yes D (tried D W) (D .secret))
+When D (witness W) secretKept = KeepsSecret D W
 When D (witness W) detectable = ⊥
 When D (witness W) (lineFails k) = ⊥
 When D (witness W) lastNotEmpty = ⊥
-When D (proof lines) detectable = EachFollows D lines × (lastEmpty lines ≡ true)
+When D (proof lines) detectable = Proves D lines
 When D (proof lines) (lineFails k) = Lowest (Fails D lines) k
-When D (proof lines) lastNotEmpty = EachFollows D lines × (lastEmpty lines ≡ false)
+When D (proof lines) lastNotEmpty = EndsOpen D lines
 When D (proof lines) opaque = ⊥
 When D (proof lines) (probeDiffers k) = ⊥
 When D (proof lines) secretKept = ⊥
@@ -116,6 +141,18 @@ Demand2 = (D : Dossier) (c : Certificate) (o : Outcome) → (judge D c ≡ o) �
 -- an accepted witness shows the secret opaque
 abbrev pub WitnessShows : Type 0
 WitnessShows = (D : Dossier) (W : Policy) → WitnessAccepted D W → Opaque D
+
+-- ---- What a line that follows says
+
+-- what rule 8 cites: the lines u and v; the other rules cite none
+abbrev pub CitedTrue : Dossier → Policy → List Line → Rule → Type 0
+CitedTrue D Q before r = (u v i j : ℕ) → r ≡ resolve u v i j → (m : Line) → (at before u ≡ some m) ⊎ (at before v ≡ some m) → TrueLine D Q m
+
+-- A line which follows is true in every policy that looks the same and gives the secret the other value; by rule 8, if the lines that it cites are.
+abbrev pub LineSound : Type 0
+LineSound =
+    (D : Dossier) (Q : Policy) → LookTheSame D (policy D) Q → (Alike D (D .secret) (policy D) Q → ⊥)
+    → (before : List Line) (l : Line) → CitedTrue D Q before (l .rule) → follows D before (l .literals) (l .rule) ≡ true → TrueLine D Q l
 
 -- ---- Demand 3, over demand 2's acceptance
 

@@ -5,17 +5,17 @@ use Rattle.reply.specs.Part.{partOf}
 use Rattle.reply.specs.Shown.{shownOf}
 use Rattle.reply.specs.declared.Paper.the-variants.{Certificate}
 use Rattle.judging.specs.Answers.{answersOf, tableAfter}
-use Rattle.judging.specs.Cases.{T1, Holds}
+use Rattle.judging.specs.Cases.{T1}
 use Rattle.judging.specs.declared.Answered.the-variants.{Count}
-use Rattle.judging.proofs.Cases.{casesHold}
+use Rattle.judging.proofs.Cases.{Computes, computed}
 use Rattle.text.specs.Line.{digitsOf, decimal}
 use Rattle.printed.specs.Lists.{spaced, spacedAll, listOf, answersHead, answersLine, asking, shownHead, shownLine}
 use Rattle.printed.proofs.Lists.{answers-line-is}
 
 -- (a) in a table with a word more than T1 has probes: `ANSWERS 2 : 1 0 7`
 answered-a : (answersOf T1 (7 ∷ 7 ∷ 7 ∷ []) ≡ Count 2) × (tableAfter T1 (7 ∷ 7 ∷ 7 ∷ []) ≡ 1 ∷ 0 ∷ 7 ∷ [])
-unfolding Holds
-answered-a = casesHold _ (List·Memᴰ·head refl)
+unfolding Computes
+answered-a = computed _ (List·Memᴰ·head refl)
 
 pub line-of-a : answersLine T1 (7 ∷ 7 ∷ 7 ∷ []) ≡ 65 ∷ 78 ∷ 83 ∷ 87 ∷ 69 ∷ 82 ∷ 83 ∷ 32 ∷ 50 ∷ 32 ∷ 58 ∷ 32 ∷ 49 ∷ 32 ∷ 48 ∷ 32 ∷ 55 ∷ 10 ∷ []
 unfolding spaced spacedAll listOf answersHead digitsOf decimal

@@ -1,5 +1,6 @@
 -- The theorem of specs/NoSlack.antt, under its name in small letters.
 use mathlib.Core.Path.{_≡_, sym, _∙_}
+use Rattle.judging.proofs.Table.{row-replied, row-kept}
 use Rattle.slack.specs.NoSlack.{NoSlack}
 
 -- what equals one value is one
@@ -9,10 +10,10 @@ one e f = e ∙ sym f
 pub noSlack : NoSlack
 noSlack =
     record {
-      judge = λ κs a x y e f p q. one (p .0) (q .0);
-      judgeTable = λ κs a x y e f p q. one (p .1) (q .1);
-      answers = λ κs a x y e f p q. one (p .0) (q .0);
-      answersTable = λ κs a x y e f p q. one (p .1) (q .1);
+      judge = λ κs a x y e f p q. one (row-replied _ _ _ p .0) (row-replied _ _ _ q .0);
+      judgeTable = λ κs a x y e f p q. one (row-replied _ _ _ p .1) (row-replied _ _ _ q .1);
+      answers = λ κs a x y e f p q. one (row-kept _ _ p .0) (row-kept _ _ q .0);
+      answersTable = λ κs a x y e f p q. one (row-kept _ _ p .1) (row-kept _ _ q .1);
       judgeSound = λ κs a x y e f p q. one (p .reply) (q .reply);
       judgeSoundTable = λ κs a x y e f p q. one (p .table) (q .table);
       lineFollows = λ κs a x y e f p q. one p q;

@@ -1,2 +1,3 @@
 pub mod NoSlack
+pub mod Promised
 pub mod Builds

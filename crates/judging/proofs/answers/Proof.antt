@@ -1,5 +1,6 @@
 -- `judging::answers` meets its contract: the dossier is refused, or read.
 use Rattle.judging.proofs.Judged.{answers-refused}
+use Rattle.judging.proofs.Table.{kept-row}
 use Rattle.judging.proofs.Sound.{dossier-sound, dossier-refused}
 use borrow.Author.Needs.{needs}
 use Rattle.judging.proofs.answers.Statement.{statement}
@@ -22,13 +23,13 @@ answers-with-requires c κs =
 returns : tie.Need-returns
 returns c =
     let a = c .before .before .before .before .before .before .args in
-    answers-refused (a .dossier .now) (a .table .now) (dossier-refused (a .dossier .now) (c .before .before .before .dossier .ensures) (c .before .e .given .1))
+    kept-row (a .dossier .now) (a .table .now) (answers-refused (a .dossier .now) (a .table .now) (dossier-refused (a .dossier .now) (c .before .before .before .dossier .ensures) (c .before .e .given .1)))
 
 same-length : tie.Need-same-length
 same-length c = search needs
 
 returns-2 : tie.Need-returns-2
-returns-2 c = search needs
+returns-2 c = kept-row _ _ (c .before .before .answers-with .ensures)
 
 pub answers-spec : {M : Type 1} → statement M
 answers-spec =

@@ -1,5 +1,6 @@
 -- `judging::judge` meets its contract: the dossier is refused, or read.
 use Rattle.judging.proofs.Judged.{judge-refused}
+use Rattle.judging.proofs.Table.{replied-row}
 use Rattle.judging.proofs.Sound.{dossier-sound, dossier-refused}
 use borrow.Author.Needs.{needs}
 use Rattle.judging.proofs.judge.Statement.{statement}
@@ -23,13 +24,14 @@ judge-with-requires c κs = dossier-sound (c .before .before .before .before .be
 returns : tie.Need-returns
 returns c =
     let a = c .before .before .before .before .before .before .before .before .args in
-    judge-refused (a .dossier .now) (a .certificate .now) (a .rounds .now) (dossier-refused (a .dossier .now) (c .before .before .before .before .dossier .ensures) (c .before .before .e .given .1)) (c .refused .ensures)
+    replied-row (a .dossier .now) (a .certificate .now) (a .rounds .now)
+    (judge-refused (a .dossier .now) (a .certificate .now) (a .rounds .now) (dossier-refused (a .dossier .now) (c .before .before .before .before .dossier .ensures) (c .before .before .e .given .1)) (c .refused .ensures))
 
 same-length : tie.Need-same-length
 same-length c = search needs
 
 returns-2 : tie.Need-returns-2
-returns-2 c = search needs
+returns-2 c = replied-row _ _ _ (c .before .before .judge-with .ensures)
 
 pub judge-spec : {M : Type 1} → statement M
 judge-spec =

@@ -2,6 +2,7 @@
 use native.Mathlib.Omega.{arith}
 use Rattle.printed.proofs.Lists.{head-short, answers-line-is}
 use Rattle.text.proofs.Put.{wrote-more, wrote-is}
+use Rattle.judging.proofs.Table.{row-kept}
 use borrow.Author.Needs.{needs}
 use Rattle.printed.proofs.answers_line.Statement.{statement}
 use Rattle.printed.proofs.answers_line.Tie as tie
@@ -24,8 +25,9 @@ same-length-2 c = search needs
 returns : tie.Need-returns
 returns c =
     let t = c .before .before .before .before .before .before .before .before .before .before .before .before .before .before .before .before .args .out .now in
-    let w = wrote-is t _ (wrote-more t _ _ (c .before .before .before .before .before .before .before .answers-head .ensures) (c .before .before .list .ensures)) (answers-line-is (c .before .before .before .before .before .before .before .before .before .before .before .before .before .before .before .before .args .dossier .now) (c .before .before .before .before .before .before .before .before .before .before .before .before .before .before .before .before .args .table .now) (c .before .before .before .before .before .before .before .before .before .before .before .answers .ensures .0) (c .before .before .before .before .before .before .before .before .before .before .before .answers .ensures .1)) in
-    (w .0, w .1, c .before .before .before .before .before .before .before .before .before .before .before .answers .ensures .1)
+    let k = row-kept _ _ (c .before .before .before .before .before .before .before .before .before .before .before .answers .ensures) in
+    let w = wrote-is t _ (wrote-more t _ _ (c .before .before .before .before .before .before .before .answers-head .ensures) (c .before .before .list .ensures)) (answers-line-is (c .before .before .before .before .before .before .before .before .before .before .before .before .before .before .before .before .args .dossier .now) (c .before .before .before .before .before .before .before .before .before .before .before .before .before .before .before .before .args .table .now) (k .0) (k .1)) in
+    (w .0, w .1, k .1)
 
 pub answers-line-spec : {M : Type 1} → statement M
 answers-line-spec =

@@ -2,6 +2,7 @@
 use mathlib.Core.Path.{sym, ap, _∙_}
 use borrow.Author.Needs.{needs}
 use Rattle.judging.specs.Judge.{judgeOf}
+use Rattle.judging.proofs.Table.{row-replied}
 use Rattle.printed.proofs.papers_line.Statement.{statement}
 use Rattle.printed.proofs.papers_line.Tie as tie
 
@@ -23,7 +24,7 @@ same-length c = search needs
 returns : tie.Need-returns
 returns c =
     let a = c .before .before .before .before .before .before .before .before .before .before .before .args in
-    let e = c .before .before .before .before .before .judge .ensures .0 ∙ ap (judgeOf (a .dossier .now) (a .certificate .now)) (sym (c .before .before .before .before .before .before .before .lent .ensures)) in
+    let e = row-replied _ _ _ (c .before .before .before .before .before .judge .ensures) .0 ∙ ap (judgeOf (a .dossier .now) (a .certificate .now)) (sym (c .before .before .before .before .before .before .before .lent .ensures)) in
     rw (sym e) (c .before .before .line .ensures)
 
 pub papers-line-spec : {M : Type 1} → statement M

@@ -2,6 +2,7 @@
 use native.Mathlib.Omega.{arith}
 use Rattle.printed.proofs.Lists.{rounds-line-is}
 use Rattle.text.proofs.Put.{reply-short, wrote-more, wrote-is}
+use Rattle.judging.proofs.Table.{row-replied}
 use borrow.Author.Needs.{needs}
 use Rattle.printed.proofs.rounds_line.Statement.{statement}
 use Rattle.printed.proofs.rounds_line.Tie as tie
@@ -24,7 +25,7 @@ same-length-2 c = search needs
 returns : tie.Need-returns
 returns c =
     let a = c .before .before .before .before .before .before .before .before .before .before .before .before .before .before .before .before .before .args in
-    let says = c .before .before .before .before .before .before .before .before .before .before .before .judge .ensures in
+    let says = row-replied _ _ _ (c .before .before .before .before .before .before .before .before .before .before .before .judge .ensures) in
     let w = wrote-is (a .out .now) _ (wrote-more (a .out .now) _ _ (c .before .before .before .before .before .before .before .reply-text .ensures) (c .before .before .list .ensures)) (rounds-line-is (a .dossier .now) (a .certificate .now) (a .rounds .now) (says .0) (says .1)) in
     (w .0, w .1, says .1)
 

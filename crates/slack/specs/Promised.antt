@@ -1,0 +1,35 @@
+-- The customer's demands, of all that the entries' contracts allow. `Reads.Post` is what the checker reads of a contract: of the lifetimes, the arguments, the answer, and the
+-- parameters at exit. (A paper is lent for reading: at exit it is what it was, which the logic says of every `&` parameter and no contract repeats.)
+use Prim.Native.Nat.{ℕ}
+use mathlib.Core.Path.{_≡_}
+use mathlib.Core.List.{List}
+use denote.Ref.{RefT, now}
+use Rattle.judging.specs.Cases.{CasesHold}
+use Rattle.judging.specs.Demands.{Demand1, Demand2, Demand3}
+use Rattle.judging.specs.Entries.{Gives, Judging, Answering}
+use Rattle.judging.proofs.judge.Reads as judging-judge
+use Rattle.judging.proofs.answers.Reads as judging-answers
+
+-- the contract allows what `of` gives of the arguments: its reply, where the lent table then holds its table
+abbrev pub Allows : {K A X E : Type 0} → (A → Gives X) → (E → RefT (List ℕ)) → (K → A → X → E → Type 0) → Type 0
+Allows {K} {A} {X} {E} of table Post = (κs : K) (a : A) (e : E) → now (table e) ≡ of a .table → Post κs a (of a .reply) e
+
+-- and nothing else
+abbrev pub AllowsOnly : {K A X E : Type 0} → (A → Gives X) → (E → RefT (List ℕ)) → (K → A → X → E → Type 0) → Type 0
+AllowsOnly {K} {A} {X} {E} of table Post = (κs : K) (a : A) (x : X) (e : E) → Post κs a x e → (x ≡ of a .reply) × (now (table e) ≡ of a .table)
+
+-- everything that f gives is what the contract of `judge` allows, and so for `answers`
+abbrev pub Keeps : Judging → Type 0
+Keeps f = Allows (λ a. f (now (a .0)) (now (a .1 .0)) (now (a .1 .1 .0))) (λ e. e .1 .1 .0) judging-judge.Post
+
+abbrev pub KeepsAnswers : Answering → Type 0
+KeepsAnswers g = Allows (λ a. g (now (a .0)) (now (a .1 .0))) (λ e. e .1 .0) judging-answers.Post
+
+pub record Promised : Type 0 where
+  -- whatever keeps the contracts meets the demands and the cases
+  pub demands : (f : Judging) (g : Answering) → Keeps f → KeepsAnswers g → Demand1 f g × Demand2 f × Demand3 f × CasesHold f g
+  -- there is such a judge, and the contracts allow nothing else than what it gives
+  pub judge : (f : Judging) × Keeps f
+  pub judgeOnly : (f : Judging) → Keeps f → AllowsOnly (λ a. f (now (a .0)) (now (a .1 .0)) (now (a .1 .1 .0))) (λ e. e .1 .1 .0) judging-judge.Post
+  pub answers : (g : Answering) × KeepsAnswers g
+  pub answersOnly : (g : Answering) → KeepsAnswers g → AllowsOnly (λ a. g (now (a .0)) (now (a .1 .0))) (λ e. e .1 .0) judging-answers.Post
