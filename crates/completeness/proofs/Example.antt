@@ -5,7 +5,8 @@ use native.Mathlib.Omega.{arith}
 use Rattle.meaning.specs.Tests.{_∈_}
 use Rattle.meaning.specs.Formula.{read}
 use Rattle.meaning.specs.Looks.{Detectable}
-use Rattle.meaning.proofs.Example.{compute, clauseOf, entryOf, withProbes, t1, p}
+use Rattle.meaning.specs.Example.{clauseOf, entryOf, exampleWith, t1, p}
+use Rattle.meaning.proofs.Example.{compute}
 use Rattle.meaning.specs.Extends.{WellNamed}
 use Rattle.meaning.proofs.Demands.{demand3}
 use Rattle.completeness.specs.Form.{Pairwise, AtomsBelow, WellFormed}
@@ -25,7 +26,7 @@ also P p f x (List·Memᴰ·head e) = rw e p
 also P p f x (List·Memᴰ·tail m) = f x m
 
 pub t1-wellFormed : WellFormed t1
-unfolding t1 withProbes clauseOf entryOf AtomsBelow read Pairwise WellNamed
+unfolding t1 exampleWith clauseOf entryOf AtomsBelow read Pairwise WellNamed
 t1-wellFormed =
     record {
       clauses = also _ (record { head = omega arith; body = none-of _ }) (also _ (record { head = omega arith; body = also _ (omega arith) (none-of _) }) (none-of _));

@@ -12,7 +12,8 @@ use Rattle.meaning.specs.Rules.{denied, fires, follows, earlier}
 use Rattle.meaning.specs.Verdict.{ProofAccepted}
 use Rattle.meaning.proofs.Tests.{and-both, and-of, named-at, named-of, at-mem}
 use Rattle.completeness.specs.Needed.{enough, Needed, NeededExactly}
-use Rattle.meaning.proofs.Example.{compute, clauseOf, entryOf, withProbes, t1}
+use Rattle.meaning.specs.Example.{clauseOf, entryOf, exampleWith, t1}
+use Rattle.meaning.proofs.Example.{compute}
 use Rattle.completeness.proofs.Tree.{gives-at}
 use Rattle.completeness.proofs.Complete.{sevenEnough}
 use Rattle.completeness.proofs.Example.{none-of, also, t1-wellFormed, t1-detectable}
@@ -84,7 +85,7 @@ t1-fact = record { labels = t1 .labels; clauses = t1 .clauses; creds = fact 1 �
 
 -- rule 5 asks less of a credential without body
 fact-fires : (b : List Line) (ls : List Literal) (c j : ℕ) → follows t1 b ls (Rule.credential c j) ≡ true → follows t1-fact b ls (Rule.credential c j) ≡ true
-unfolding follows t1 withProbes clauseOf entryOf t1-fact fires all
+unfolding follows t1 exampleWith clauseOf entryOf t1-fact fires all
 fact-fires b ls c j h =
     let (e, ee, g) = named-at _ _ h in
     let (l, el, t) = named-at _ _ g in

@@ -15,7 +15,8 @@ use Rattle.meaning.specs.Extends.{WellNamed}
 use Rattle.meaning.proofs.Tests.{and-both, named-at, at-mem, mem-at}
 use Rattle.meaning.proofs.Demands.{demand3}
 use Rattle.completeness.specs.Form.{Pairwise, Within, AtomsBelow, WellFormed}
-use Rattle.meaning.proofs.Example.{compute, entryOf, literal, line}
+use Rattle.meaning.specs.Example.{entryOf, literal, line}
+use Rattle.meaning.proofs.Example.{compute}
 use Rattle.completeness.proofs.Example.{none-of, also}
 
 -- Fact 0, visible if seen; hidden facts 1, 2 and 3; a credential for 1, and the secret with it.

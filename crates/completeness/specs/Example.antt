@@ -1,5 +1,5 @@
 -- The worked instance: T1 of 01 is well formed, and has a proof.
-use Rattle.meaning.proofs.Example.{t1}
+use Rattle.meaning.specs.Example.{t1}
 use Rattle.completeness.specs.Form.{WellFormed}
 use Rattle.completeness.specs.Complete.{SomeProof}
 

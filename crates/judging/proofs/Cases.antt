@@ -1,6 +1,5 @@
 -- 01's cases (a) to (j), computed by the checker: whatever keeps to the table meets them.
 use mathlib.Core.Path.{_≡_, refl, sym, ap, subst, _∙_}
-use Prim.Native.Nat.{ℕ}
 use mathlib.Core.List.{List, [], _∷_, List·Memᴰ·head, List·Memᴰ·tail, List·Memᴰ·not-nil}
 use Rattle.words.specs.Out as out
 use Rattle.words.specs.Read.{ranged, next, rising, listed, times, section}
@@ -19,7 +18,8 @@ use Rattle.certificate.specs.Read.{statement, literal, spoken, literals, line, 
 use Rattle.verdict.specs.Told.{showing, replyAt, numbered, roundsAt}
 use Rattle.judging.specs.Judge.{judgeProposal, judgeRead, judgeOf}
 use Rattle.judging.specs.Rounds.{roundsProposal, roundsRead, roundsAfter}
-use Rattle.judging.specs.Answers.{wordTo, countOf, tableOf, answersOf, tableAfter}
+use Rattle.judging.specs.Table.{wordTo}
+use Rattle.judging.specs.Answers.{countOf, tableOf, answersOf, tableAfter}
 use Rattle.judging.specs.Cases.{Case, judged, answered, cases, Meets, CasesHold}
 use Rattle.judging.specs.Entries.{Judging, Answering}
 use Rattle.judging.specs.Demands.{Tabled, AnswersTabled}
@@ -50,7 +50,7 @@ computed = row (refl, refl) (row refl (row refl (row refl (row refl (row refl (r
 pub meets : (f : Judging) (g : Answering) → Tabled f → AnswersTabled g → (c : Case) → Computes c → Meets f g c
 unfolding Meets Computes
 meets f g s r (judged d c reply) h = λ t l. row-replied d c t (s d c t) .0 ∙ ap (judgeOf d c) l ∙ h
-meets f g s r (answered d t reply after) h = let k = row-kept d t (r d t) in (k .0 ∙ h .0, k .1 ∙ h .1)
+meets f g s r (answered d t reply after) h = let k = row-kept d t (r d [] t) in (k .0 ∙ h .0, k .1 ∙ h .1)
 
 pub casesHold : (f : Judging) (g : Answering) → Tabled f → AnswersTabled g → CasesHold f g
 casesHold f g s r c m = meets f g s r c (computed c m)

@@ -15,7 +15,6 @@ use Rattle.meaning.specs.Papers.{Dossier, Entry, policy, answer, Line, Certific
 use Rattle.meaning.proofs.Tests.{clash, named-is}
 use Rattle.meaning.proofs.Truth.{yes-tested}
 use Rattle.promise.specs.Code.{bit}
-use Rattle.judging.specs.Answers.{wordTo}
 use Rattle.meaning.specs.Looks.{Detectable}
 use Rattle.meaning.specs.Formula.{Given, joined}
 use Rattle.meaning.specs.Verdict as meant
@@ -39,7 +38,7 @@ use Rattle.reply.specs.declared.Verdict.the-variants as verdict
 use Rattle.evaluation.proofs.Enough.{enough}
 use Rattle.verdict.specs.Told.{showing, replyAt, sizeOf}
 use Rattle.judging.specs.Judge.{Judge, judgeProposal, judgeRead, judgeOf}
-use Rattle.judging.specs.Table.{SoundFor}
+use Rattle.judging.specs.Table.{SoundFor, wordTo}
 use Rattle.judging.specs.Entries.{Judging}
 use Rattle.judging.specs.Demands.{Tabled, Demand2, Demand3, TableEnough, AnswersMeant, RoundsMeant}
 use Rattle.judging.proofs.Table.{row-replied}
@@ -203,7 +202,7 @@ module _ (D E : Dossier) (x : Extends D E) where
 
 module _ (f : Judging) (tabled : Tabled f) where
   -- what keeps to the table replies as the definition does
-  same : (d c t : List ℕ) → f d c t .reply ≡ judgeOf d c (length t)
+  pub same : (d c t : List ℕ) → f d c t .reply ≡ judgeOf d c (length t)
   same d c t = row-replied d c t (tabled d c t) .0
 
   demand2 : Demand2 f

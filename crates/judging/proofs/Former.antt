@@ -18,7 +18,7 @@ use Rattle.reply.specs.declared.Paper.the-variants as paper
 use Rattle.verdict.specs.Told.{replyAt, sizeOf}
 use Rattle.judging.specs.Judge.{judgeProposal, judgeOf}
 use Rattle.judging.specs.Former.{formerOf, RepliesKept}
-use Rattle.judging.proofs.Demands.{read-by}
+use Rattle.judging.proofs.Demands.{read-by, same}
 
 -- with the dossier read: whatever was read from c
 proposal-kept : (d : List ℕ) (D : Dossier) → Yes D (policy D) (D .secret) → (c : List ℕ) (room : ℕ) (x : Out Certificate) → judgeProposal meant.judge d D c room x ≡ judgeProposal formerJudge d D c room x
@@ -28,4 +28,4 @@ proposal-kept d D y c room (bad e p w) = refl
 
 pub repliesKept : RepliesKept
 unfolding judgeOf formerOf
-repliesKept D f y c room = read-by D f meant.judge c room ∙ proposal-kept (codeDossier D) D y c room (certificate (length (D .labels)) (length (D .creds)) c) ∙ sym (read-by D f formerJudge c room)
+repliesKept f tabled D form y c t = same f tabled _ c t ∙ read-by D form meant.judge c _ ∙ proposal-kept (codeDossier D) D y c _ (certificate (length (D .labels)) (length (D .creds)) c) ∙ sym (read-by D form formerJudge c _)

@@ -22,14 +22,15 @@ use Rattle.certificate.specs.Read.{certificate}
 use Rattle.reply.specs.Answer.{refused}
 use Rattle.reply.specs.declared.Paper.the-variants as paper
 use Rattle.reply.specs.declared.Reply.{Reply}
+use Rattle.reply.specs.declared.Written.{Written}
+use Rattle.reply.specs.declared.Written.the-variants.{Count, Refused}
 use Rattle.evaluation.specs.Which.{policyAt}
 use Rattle.evaluation.specs.Answer.{answerOf, answerWord}
 use Rattle.verdict.specs.Told.{replyAt, roundsAt, Says, sizeOf}
 use Rattle.judging.specs.Judge.{judgeProposal, judgeRead, judgeOf, Sound, Offered}
 use Rattle.judging.specs.Rounds.{roundsProposal, roundsRead, roundsAfter}
-use Rattle.judging.specs.Answers.{wordTo, countOf, tableOf, answersOf, tableAfter}
-use Rattle.judging.specs.declared.Answered.{Answered}
-use Rattle.judging.specs.declared.Answered.the-variants.{Count, Refused}
+use Rattle.judging.specs.Table.{wordTo}
+use Rattle.judging.specs.Answers.{countOf, tableOf, answersOf, tableAfter}
 use Rattle.judging.proofs.Sound.{sound-paper, offered-paper, atoms-are, creds-are, probes-are}
 
 -- ---- judge
@@ -89,12 +90,13 @@ module _ (d c t : List ℕ) (o : Layout) (s : Sound d o) where
 
 -- ---- answers
 
-abbrev pub Kept : List ℕ → List ℕ → Answered → List ℕ → Type 0
+-- r is what the answers entry answers, and u what the table then holds, which held t
+abbrev pub Kept : List ℕ → List ℕ → Written → List ℕ → Type 0
 Kept d t r u = (r ≡ answersOf d t) × (u ≡ tableAfter d t)
 
-pub answers-refused : (d t : List ℕ) {e p w : ℕ} → dossier d ≡ bad e p w → Kept d t (Refused e p w) t
+pub answers-refused : (d t : List ℕ) {e p w : ℕ} {r : Reply} → dossier d ≡ bad e p w → r ≡ refused e paper.Dossier p w → Kept d t (Refused r) t
 unfolding answersOf tableAfter countOf tableOf
-answers-refused d t h = (ap (λ (x : Out Dossier). countOf x t) (sym h), ap (λ (x : Out Dossier). tableOf x t) (sym h))
+answers-refused d t h g = (ap Refused g ∙ ap (λ (x : Out Dossier). countOf x t) (sym h), ap (λ (x : Out Dossier). tableOf x t) (sym h))
 
 module _ (d t : List ℕ) (o : Layout) (s : Sound d o) where
   words-are : (j : ℕ) → j < o .nprobes → answerWord d o j ≡ wordTo (s .paper) j
@@ -103,12 +105,12 @@ module _ (d t : List ℕ) (o : Layout) (s : Sound d o) where
       ap (λ (x : Option Entry). bit (named x (λ e. answer (dossierAt d o) (policy (dossierAt d o)) e))) (sym (many-at (entry (o .atoms) (o .ncreds)) d (o .probes) (o .nprobes) j h))
       ∙ ap (λ (y : Dossier). bit (named (at (y .probes) j) (λ e. answer y (policy y) e))) (sound-paper d o s)
 
-  pub answers-short : length t < o .nprobes → Kept d t (Refused 18 0 0) t
+  pub answers-short : length t < o .nprobes → {r : Reply} → r ≡ refused 18 paper.Dossier 0 0 → Kept d t (Refused r) t
   unfolding answersOf tableAfter countOf tableOf choose
-  answers-short h =
+  answers-short h g =
       let z : length t < length (s .paper .probes) = omega (arith, probes-are d o s) in
       let q = lt-leb _ _ z in
-      (sym (ap (λ (x : Out Dossier). countOf x t) (s .isRead) ∙ (rw q refl)), sym (ap (λ (x : Out Dossier). tableOf x t) (s .isRead) ∙ (rw q refl)))
+      (ap Refused g ∙ sym (ap (λ (x : Out Dossier). countOf x t) (s .isRead) ∙ (rw q refl)), sym (ap (λ (x : Out Dossier). tableOf x t) (s .isRead) ∙ (rw q refl)))
 
   pub answers-given : {u : List ℕ} → o .nprobes ≤ length t → u ≡ filled (answerWord d o) (o .nprobes) t → Kept d t (Count (o .nprobes)) u
   unfolding answersOf tableAfter countOf tableOf choose filled

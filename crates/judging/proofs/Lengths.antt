@@ -18,7 +18,8 @@ use Rattle.dossier.specs.Read.{dossier}
 use Rattle.certificate.specs.Read.{certificate}
 use Rattle.verdict.specs.Told.{numbered, roundsAt}
 use Rattle.judging.specs.Rounds.{roundsProposal, roundsRead, roundsAfter}
-use Rattle.judging.specs.Answers.{wordTo, tableOf, tableAfter}
+use Rattle.judging.specs.Table.{wordTo}
+use Rattle.judging.specs.Answers.{tableOf, tableAfter}
 
 by-room : (n : ℕ) (t u : List ℕ) → (n ≤ length t → length u ≡ length t) → length (choose (leb n (length t)) u t) ≡ length t
 unfolding choose

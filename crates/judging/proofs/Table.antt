@@ -1,4 +1,4 @@
--- The table's rows: `oneRow`, `numbers`; what keeps to them, and what the code computes.
+-- The table's rows: `oneRow`, `tablesKept`, `numbers`; what keeps to them, and what the code computes.
 use Prim.Native.Nat.{ℕ, _-_, _<_, _≤_}
 use mathlib.Core.Path.{_≡_, refl, sym, ap, ap₂, _∙_, subst, subst₂}
 use mathlib.Core.List.{List, []}
@@ -30,22 +30,39 @@ use Rattle.certificate.specs.Read.{certificate}
 use Rattle.certificate.proofs.Promise.{certificateSound, certificateAccepted, certificateShows, certificateRows}
 use Rattle.reply.specs.Answer.{numberOf, refused}
 use Rattle.reply.specs.Part.{partOf}
-use Rattle.reply.specs.Shown.{shownOf}
+use Rattle.reply.specs.Shown.{shownOf, shownBy}
 use Rattle.reply.specs.declared.Paper.{Paper}
 use Rattle.reply.specs.declared.Paper.the-variants.{Dossier, Certificate}
 use Rattle.reply.specs.declared.Reply.{Reply}
+use Rattle.reply.specs.declared.Written.{Written}
+use Rattle.reply.specs.declared.Written.the-variants.{Refused}
 use Rattle.reply.proofs.Part.{fits}
 use Rattle.verdict.specs.Told.{showing, replyAt, numbered, roundsAt, sizeOf}
 use Rattle.judging.specs.Judge.{judgeOf}
 use Rattle.judging.specs.Rounds.{roundsAfter}
 use Rattle.judging.specs.Answers.{countOf, tableOf, answersOf, tableAfter}
-use Rattle.judging.specs.Table.{Both, Long, Row, AnswersRow, partShown}
+use Rattle.judging.specs.Table.{Both, Long, Row, AnswersRow}
 use Rattle.judging.specs.Entries.{Judging, Answering}
-use Rattle.judging.specs.Demands.{Tabled, AnswersTabled, OneRow, Numbers}
-use Rattle.judging.specs.declared.Answered.{Answered}
-use Rattle.judging.specs.declared.Answered.the-variants.{Refused}
+use Rattle.judging.specs.Demands.{Tabled, AnswersTabled, OneRow, TablesKept, Numbers}
 use Rattle.judging.proofs.Judged.{Replied, Kept, ByProposal, judge-refused, by-dossier, proposal-refused, proposal-short, proposal-meant, answers-refused}
 use Rattle.judging.proofs.Shows.{Stands, entries, probe-stands, secret-stands, line-stands}
+
+-- ---- a table of rows, each of which says what is answered, what is shown for it and what the lent table then holds, where all rows that apply give the same answer and table
+
+module _ {X : Type 0} (Says : X → List ℕ → List ℕ → Type 0) (show : X → List ℕ) (answer : X) (table : List ℕ) (gives : (x : X) (us u : List ℕ) → Says x us u → ((x ≡ answer) × (u ≡ table)) × (us ≡ show x)) where
+  says-once : (x y : X) (us vs u v : List ℕ) → Says x us u → Says y vs v → (x ≡ y) × (us ≡ vs) × (u ≡ v)
+  says-once x y us vs u v m n =
+      let (k, w) = gives x us u m in
+      let (l, z) = gives y vs v n in
+      let e = k .0 ∙ sym (l .0) in
+      (e, w ∙ ap show e ∙ sym z, k .1 ∙ sym (l .1))
+
+  -- if some row applies, it applies to that answer and table
+  says-so : (x : X) × ((us : List ℕ) × ((u : List ℕ) × Says x us u)) → {r : X} {u : List ℕ} → (r ≡ answer) × (u ≡ table) → Says r (show r) u
+  says-so (x, (us, (v, s))) {r} {u} h =
+      let (k, w) = gives x us v s in
+      let e = k .0 ∙ sym (h .0) in
+      subst (λ (y : List ℕ). Says r (show r) y) (k .1 ∙ sym (h .1)) (subst₂ (λ (y : X) (z : List ℕ). Says y z v) e (w ∙ ap show e) s)
 
 -- ---- the rows of form
 
@@ -76,10 +93,7 @@ of-short t {k} q h = let z : 18 ≡ k = Option·some-injective 18 k q in (omega 
 
 -- the judge's reply is r, what is shown for it is us, and the table, which held t, then holds u
 abbrev Gives : List ℕ → List ℕ → List ℕ → Reply → List ℕ → List ℕ → Type 0
-Gives d c t r us u = (r ≡ judgeOf d c (length t)) × (us ≡ shownOf d c r) × (u ≡ roundsAfter d c t)
-
-gives-of : (d c t : List ℕ) {r : Reply} {us u : List ℕ} → Replied d c t r u → us ≡ shownOf d c r → Gives d c t r us u
-gives-of d c t h e = (h .0, e, h .1)
+Gives d c t r us u = Replied d c t r u × (us ≡ shownOf d c r)
 
 -- the reply for an outcome, of the words of sound papers
 abbrev replyTo : papers.Dossier → papers.Certificate → meant.Outcome → Reply
@@ -97,26 +111,26 @@ module _ {d c : List ℕ} {D : papers.Dossier} {C : papers.Certificate} (b : Bot
 
   gives-short : length t < length (D .labels) → Gives d c t (refused 18 Dossier 0 0) [] t
   unfolding shownOf
-  gives-short l = gives-of d c t (by-both (λ q. proposal-short d D c t C q l refl)) (sym (fits d 0 0 (omega arith)))
+  gives-short l = (by-both (λ q. proposal-short d D c t C q l refl), sym (fits d 0 0 (omega arith)))
 
   gives : Long D t → (o : meant.Outcome) → When D C o → {r : Reply} {us u : List ℕ} → replyTo D C o ≡ r → shownOf (codeDossier D) (codeCertificate C) r ≡ us → roundsAt (length (D .labels)) D C o t ≡ u → Gives d c t r us u
   gives l o w {r} {us} {u} e h z =
-      let is = shown.demand2 D C o .1 w in
-      gives-of d c t
-      (by-both (λ q. proposal-meant d D c t C q l
-      (sym e ∙ ap₂ (λ (x y : List ℕ). replyAt x (layoutOf D) y (sizeOf (proposalOf C)) o) (sym (b .dossierWords)) (sym (b .certificateWords)) ∙ ap (replyAt d (layoutOf D) c (sizeOf (proposalOf C))) (sym is))
-      (sym z ∙ ap (λ (x : meant.Outcome). roundsAt (length (D .labels)) D C x t) (sym is))))
-      (shown-for r h)
+      let is = shown.demand2 D C o .1 w in (
+        by-both (λ q. proposal-meant d D c t C q l
+            (sym e ∙ ap₂ (λ (x y : List ℕ). replyAt x (layoutOf D) y (sizeOf (proposalOf C)) o) (sym (b .dossierWords)) (sym (b .certificateWords)) ∙ ap (replyAt d (layoutOf D) c (sizeOf (proposalOf C))) (sym is))
+            (sym z ∙ ap (λ (x : meant.Outcome). roundsAt (length (D .labels)) D C x t) (sym is))),
+        shown-for r h,
+      )
 
 module _ (d c t : List ℕ) where
   row-gives : (r : Reply) (us u : List ℕ) → Row d c t r us u → Gives d c t r us u
   unfolding shownOf replyAt showing nextOf layoutOf proposalOf roundsAt numbered about When
-  row-gives r us u (Row.inDossier s) = gives-of d c t (judge-refused d c t (dossierRows d _ _ us s) refl) (shown-part (row-shows s))
-  row-gives r us u (Row.inCertificate D e f s) =
-      gives-of d c t
-      (by-dossier d c t D _ (sound-read d D e f) (subst (λ (x : Out papers.Certificate). ByProposal d D c t x r t) (sym (certificateRows _ _ c _ _ us s)) (proposal-refused d D c t refl)))
-      (shown-part (certificate-shows s))
-  row-gives r us u (Row.short D C b l) = gives-short b t l
+  row-gives r us u (Row.inDossier s) = (judge-refused d c t (dossierRows d _ _ us s) refl, shown-part (row-shows s))
+  row-gives r us u (Row.inCertificate D e f s) = (
+    by-dossier d c t D _ (sound-read d D e f) (subst (λ (x : Out papers.Certificate). ByProposal d D c t x r t) (sym (certificateRows _ _ c _ _ us s)) (proposal-refused d D c t refl)),
+    shown-part (certificate-shows s),
+  )
+  row-gives r us u (Row.short D C b l) = gives-short b t (omega arith)
   row-gives r us u (Row.opaque D W b l w) = gives b t l meant.opaque w refl (fits _ 0 0 (omega arith)) refl
   row-gives r us u (Row.detectable D ls b l w) = gives b t l meant.detectable w refl (fits _ 0 0 (omega arith)) refl
   row-gives r us u (Row.probe D W k e b l w h) =
@@ -148,7 +162,7 @@ module _ (d c t : List ℕ) where
 
   by-length : (D : papers.Dossier) (C : papers.Certificate) → Both d c D C → (b : Bool) → leb (length (D .labels)) (length t) ≡ b → Applies
   by-length D C b true q = by-meaning D C b (leb-true _ _ q) (meant.judge D C) (shown.demand2 D C (meant.judge D C) .0 refl)
-  by-length D C b false q = (_, (_, (_, Row.short D C b (leb-false _ _ q))))
+  by-length D C b false q = (_, (_, (_, Row.short D C b (omega (arith, leb-false (length (D .labels)) (length t) q)))))
 
   by-certificate : (D : papers.Dossier) (q : ℕ) → dossier d ≡ got D q → (out : Out papers.Certificate) → certificate (length (D .labels)) (length (D .creds)) c ≡ out → Applies
   by-certificate D q h (got C m) e =
@@ -161,18 +175,12 @@ module _ (d c t : List ℕ) where
   by-words (got D q) e = by-certificate D q e (certificate (length (D .labels)) (length (D .creds)) c) refl
   by-words (bad e p w) g = let (us, s, z) = dossierShows d e p w g in (_, (us, (_, Row.inDossier s)))
 
-  row : Row d c t (judgeOf d c (length t)) (shownOf d c (judgeOf d c (length t))) (roundsAfter d c t)
-  row =
-      let (r, (us, (u, s))) = by-words (dossier d) refl in
-      let g = row-gives r us u s in
-      subst (λ (v : List ℕ). Row d c t (judgeOf d c (length t)) (shownOf d c (judgeOf d c (length t))) v) (g .2) (subst₂ (λ (x : Reply) (y : List ℕ). Row d c t x y u) (g .0) (g .1 ∙ ap (shownOf d c) (g .0)) s)
-
   -- what the code has found to be the judge's reply and table is what the row says
   pub replied-row : {r : Reply} {u : List ℕ} → Replied d c t r u → Row d c t r (shownOf d c r) u
-  replied-row {r} {u} h = subst₂ (λ (x : Reply) (v : List ℕ). Row d c t x (shownOf d c x) v) (sym (h .0)) (sym (h .1)) row
+  replied-row = says-so (Row d c t) (shownOf d c) _ _ row-gives (by-words (dossier d) refl)
 
   pub row-replied : {r : Reply} {us u : List ℕ} → Row d c t r us u → Replied d c t r u
-  row-replied s = let g = row-gives _ _ _ s in (g .0, g .2)
+  row-replied s = row-gives _ _ _ s .0
 
   -- ---- its number is in the table
 
@@ -187,26 +195,33 @@ module _ (d c t : List ℕ) where
   row-number r us u (Row.line D ls j x b l w h) k e = of-number t e (omega arith) (omega arith)
   row-number r us u (Row.last D ls x b l w h) k e = of-number t e (omega arith) (omega arith)
 
+  row-leaves : (r : Reply) (us u : List ℕ) → Row d c t r us u → (numberOf (r .verdict) ≡ some 14 → ⊥) → (numberOf (r .verdict) ≡ some 15 → ⊥) → u ≡ t
+  row-leaves r us u (Row.inDossier s) p q = refl
+  row-leaves r us u (Row.inCertificate D h f s) p q = refl
+  row-leaves r us u (Row.short D C b l) p q = refl
+  row-leaves r us u (Row.opaque D W b l w) p q = refl
+  row-leaves r us u (Row.detectable D ls b l w) p q = refl
+  row-leaves r us u (Row.probe D W j x b l w h) p q = absurd (p refl)
+  row-leaves r us u (Row.secret D W b l w) p q = absurd (q refl)
+  row-leaves r us u (Row.line D ls j x b l w h) p q = refl
+  row-leaves r us u (Row.last D ls x b l w h) p q = refl
+
 -- ---- the answers entry
 
 module _ (d t : List ℕ) where
-  abbrev Answers : Answered → List ℕ → List ℕ → Type 0
-  Answers r us u = (r ≡ answersOf d t) × (us ≡ partShown d r) × (u ≡ tableAfter d t)
+  -- with the dossier D read
+  kept-read : (D : papers.Dossier) → d ≡ codeDossier D → DossierForm D → {r : Written} {u : List ℕ} → (r ≡ countOf (got D (length (codeDossier D))) t) × (u ≡ tableOf (got D (length (codeDossier D))) t) → Kept d t r u
+  unfolding answersOf tableAfter
+  kept-read D e f h = rw (sound-read d D e f) h
 
-  answers-give : (r : Answered) (us u : List ℕ) → AnswersRow d t r us u → Answers r us u
-  unfolding answersOf tableAfter countOf tableOf choose
-  answers-give r us u (AnswersRow.form s) = let k = answers-refused d t (dossierRows d _ _ us s) in (k .0, shown-part (row-shows s), k .1)
-  answers-give r us u (AnswersRow.short D e f l) =
-      let h = sound-read d D e f in
-      let q = lt-leb _ _ l in
-      (sym (ap (λ (x : Out papers.Dossier). countOf x t) h ∙ (rw q refl)), sym (fits d 0 0 (omega arith)), sym (ap (λ (x : Out papers.Dossier). tableOf x t) h ∙ (rw q refl)))
-  answers-give r us u (AnswersRow.count D e f l) =
-      let h = sound-read d D e f in
-      let q = le-leb _ _ l in
-      (sym (ap (λ (x : Out papers.Dossier). countOf x t) h ∙ (rw q refl)), sym (fits d 0 0 (omega arith)), sym (ap (λ (x : Out papers.Dossier). tableOf x t) h ∙ (rw q refl)))
+  answers-give : (c : List ℕ) (r : Written) (us u : List ℕ) → AnswersRow d t r us u → Kept d t r u × (us ≡ shownBy d c r)
+  unfolding countOf tableOf choose shownOf
+  answers-give c r us u (AnswersRow.form s) = (answers-refused d t (dossierRows d _ _ us s) refl, shown-part (row-shows s))
+  answers-give c r us u (AnswersRow.short D e f l) = (kept-read D e f (rw (lt-leb _ _ l) (refl, refl)), sym (fits d 0 0 (omega arith)))
+  answers-give c r us u (AnswersRow.count D e f l) = (kept-read D e f (rw (le-leb _ _ l) (refl, refl)), refl)
 
   abbrev AnswersApplies : Type 0
-  AnswersApplies = (r : Answered) × ((us : List ℕ) × ((u : List ℕ) × AnswersRow d t r us u))
+  AnswersApplies = (r : Written) × ((us : List ℕ) × ((u : List ℕ) × AnswersRow d t r us u))
 
   by-room : (D : papers.Dossier) → d ≡ codeDossier D → DossierForm D → (b : Bool) → leb (length (D .probes)) (length t) ≡ b → AnswersApplies
   by-room D e f true q = (_, (_, (_, AnswersRow.count D e f (leb-true _ _ q))))
@@ -216,34 +231,41 @@ module _ (d t : List ℕ) where
   by-form (got D q) e = let s = dossierSound d D q e in by-room D (s .0) (s .1) (leb (length (D .probes)) (length t)) refl
   by-form (bad e p w) g = let (us, s, z) = dossierShows d e p w g in (_, (us, (_, AnswersRow.form s)))
 
-  answers-row : AnswersRow d t (answersOf d t) (partShown d (answersOf d t)) (tableAfter d t)
-  answers-row =
-      let (r, (us, (u, s))) = by-form (dossier d) refl in
-      let g = answers-give r us u s in
-      subst (λ (v : List ℕ). AnswersRow d t (answersOf d t) (partShown d (answersOf d t)) v) (g .2) (subst₂ (λ (x : Answered) (y : List ℕ). AnswersRow d t x y u) (g .0) (g .1 ∙ ap (partShown d) (g .0)) s)
+  -- what the code has found to be the entry's answer and table is what the row says
+  pub kept-row : (c : List ℕ) {r : Written} {u : List ℕ} → Kept d t r u → AnswersRow d t r (shownBy d c r) u
+  kept-row c = says-so (AnswersRow d t) (shownBy d c) _ _ (answers-give c) (by-form (dossier d) refl)
 
-  pub kept-row : {r : Answered} {u : List ℕ} → Kept d t r u → AnswersRow d t r (partShown d r) u
-  kept-row {r} {u} h = subst₂ (λ (x : Answered) (v : List ℕ). AnswersRow d t x (partShown d x) v) (sym (h .0)) (sym (h .1)) answers-row
+  pub row-kept : {r : Written} {us u : List ℕ} → AnswersRow d t r us u → Kept d t r u
+  row-kept s = answers-give [] _ _ _ s .0
 
-  pub row-kept : {r : Answered} {us u : List ℕ} → AnswersRow d t r us u → Kept d t r u
-  row-kept s = let g = answers-give _ _ _ s in (g .0, g .2)
+  answers-number : (r : Reply) (us u : List ℕ) → AnswersRow d t (Refused r) us u → (k : ℕ) → numberOf (r .verdict) ≡ some k → (1 ≤ k) × (k ≤ 18)
+  answers-number r us u s = go (Refused r) us u s refl
+    where
+      -- the number of the refusal that the row has
+      told : {n p w : ℕ} → Refused (refused n Dossier p w) ≡ Refused r → {k : ℕ} → numberOf (r .verdict) ≡ some k → n ≡ k
+      told {n} {p} {w} e {k} h = let z : refused n Dossier p w ≡ r = cc in Option·some-injective n k (ap (λ (x : Reply). numberOf (x .verdict)) z ∙ h)
 
-  answers-number : (r : Answered) (us u : List ℕ) → AnswersRow d t r us u → (k p w : ℕ) → r ≡ Refused k p w → (1 ≤ k) × (k ≤ 18)
-  answers-number r us u (AnswersRow.form {e = e} s) k p w q =
-      let n = row-shows s in
-      let z : e ≡ k = cc in
-      (omega (arith, n .least), omega (arith, n .most))
-  answers-number r us u (AnswersRow.short D e f l) k p w q = let z : _≡_ {A = ℕ} 18 k = cc in (omega arith, omega arith)
-  answers-number r us u (AnswersRow.count D e f l) k p w q = absurd (let z : _≡_ {A = ℕ} 0 1 = cc in omega arith)
+      go : (q : Written) (us u : List ℕ) → AnswersRow d t q us u → q ≡ Refused r → (k : ℕ) → numberOf (r .verdict) ≡ some k → (1 ≤ k) × (k ≤ 18)
+      go q us u (AnswersRow.form f) e k h = let n = row-shows f in let z = told e h in (omega (arith, n .least), omega (arith, n .most))
+      go q us u (AnswersRow.short D w f l) e k h = let z = told e h in (omega arith, omega arith)
+      go q us u (AnswersRow.count D w f l) e k h = absurd (let z : _≡_ {A = ℕ} 0 1 = cc in omega arith)
+
+  answers-leave : (q : Written) (us u : List ℕ) → AnswersRow d t q us u → {r : Reply} → q ≡ Refused r → u ≡ t
+  answers-leave q us u (AnswersRow.form f) e = refl
+  answers-leave q us u (AnswersRow.short D w f l) e = refl
+  answers-leave q us u (AnswersRow.count D w f l) e = absurd (let z : _≡_ {A = ℕ} 0 1 = cc in omega arith)
 
 pub oneRow : OneRow
 oneRow =
     record {
       some = λ d c t. by-words d c t (dossier d) refl;
-      once = λ d c t r q us vs u v m n. let x = row-gives d c t r us u m in let y = row-gives d c t q vs v n in let e = x .0 ∙ sym (y .0) in (e, x .1 ∙ ap (shownOf d c) e ∙ sym (y .1), x .2 ∙ sym (y .2));
+      once = λ d c t. says-once (Row d c t) (shownOf d c) _ _ (row-gives d c t);
       answersSome = λ d t. by-form d t (dossier d) refl;
-      answersOnce = λ d t r q us vs u v m n. let x = answers-give d t r us u m in let y = answers-give d t q vs v n in let e = x .0 ∙ sym (y .0) in (e, x .1 ∙ ap (partShown d) e ∙ sym (y .1), x .2 ∙ sym (y .2));
+      answersOnce = λ d t. says-once (AnswersRow d t) (shownBy d []) _ _ (answers-give d t []);
     }
+
+pub tablesKept : TablesKept
+tablesKept = record { judge = row-leaves; answers = λ d t r us u s. answers-leave d t (Refused r) us u s refl }
 
 pub numbers : Numbers
 unfolding InTable
@@ -259,8 +281,8 @@ theAnswers d t = record { reply = answersOf d t; table = tableAfter d t }
 
 pub judge-tabled : Tabled theJudge
 unfolding theJudge
-judge-tabled = row
+judge-tabled d c t = replied-row d c t (refl, refl)
 
 pub answers-tabled : AnswersTabled theAnswers
 unfolding theAnswers
-answers-tabled = answers-row
+answers-tabled d c t = kept-row d t c (refl, refl)

@@ -8,9 +8,9 @@ use Rattle.reply.specs.Answer.{accepted, refused}
 use Rattle.reply.specs.declared.Paper.the-variants.{Dossier, Certificate}
 use Rattle.reply.specs.declared.Reply.{Reply}
 use Rattle.reply.specs.declared.Verdict.the-variants.{Opaque, Detectable}
+use Rattle.reply.specs.declared.Written.{Written}
+use Rattle.reply.specs.declared.Written.the-variants.{Count}
 use Rattle.judging.specs.Entries.{Judging, Answering}
-use Rattle.judging.specs.declared.Answered.{Answered}
-use Rattle.judging.specs.declared.Answered.the-variants.{Count}
 
 -- "Hidden fact 0; visible 2 from 1; credential 1 from 0; probes: 2 with it, 2 without; secret 0."
 -- The probe count stands at place 16, the probes at 17 and 21, the secret's count at 24.
@@ -40,7 +40,7 @@ P =
 -- A dossier with a certificate and the judge's reply, with any table of 64 words; or with a lent table, the reply to it, and what the table then holds.
 pub data Case : Type 0 where
   judged : List ℕ → List ℕ → Reply → Case
-  answered : List ℕ → List ℕ → Answered → List ℕ → Case
+  answered : List ℕ → List ℕ → Written → List ℕ → Case
 
 -- f and g meet a case
 unfoldable pub Meets : Judging → Answering → Case → Type 0

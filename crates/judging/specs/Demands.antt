@@ -1,5 +1,5 @@
--- The customer's three demands, over words, of any two functions that might be the entries. proofs/Demands.antt has each under the same name in small letters, of all that keep to the
--- table (`TableEnough`); slack's `Promised` says that what the contracts allow does.
+-- The customer's three demands, over words, of any two functions that might be the entries. That what keeps to the table meets them is `TableEnough`; that what the contracts allow
+-- keeps to the table, slack's `Promised`.
 use mathlib.Core.Path.{_≡_}
 use mathlib.Core.List.{List, []}
 use mathlib.Core.Logic.{_↔_}
@@ -17,24 +17,23 @@ use Rattle.meaning.specs.Extends.{Extends}
 use Rattle.promise.specs.Code.{codeDossier, codeCertificate}
 use Rattle.promise.specs.Form.{DossierForm}
 use Rattle.reply.specs.Answer.{numberOf, accepted}
-use Rattle.reply.specs.Shown.{shownOf}
+use Rattle.reply.specs.Shown.{shownOf, shownBy}
 use Rattle.reply.specs.declared.Reply.{Reply}
 use Rattle.reply.specs.declared.Verdict as said
 use Rattle.reply.specs.declared.Verdict.the-variants as verdict
-use Rattle.judging.specs.Answers.{wordTo}
+use Rattle.reply.specs.declared.Written.{Written}
+use Rattle.reply.specs.declared.Written.the-variants.{Refused}
 use Rattle.judging.specs.Entries.{Judging, Answering}
-use Rattle.judging.specs.Table.{SoundFor, Long, Row, AnswersRow, partShown}
-use Rattle.judging.specs.declared.Answered.{Answered}
-use Rattle.judging.specs.declared.Answered.the-variants.{Refused}
+use Rattle.judging.specs.Table.{SoundFor, Long, Row, wordTo, AnswersRow}
 
 -- "Every dossier and certificate, however damaged, gets one reply: opaque, detectable, or a numbered refusal that shows the words at fault. Neither paper is altered; a refused
--- answers table keeps its contents." The reply is that of a row of the table, what is shown for it is what the row names, and the lent table then holds what the row says. (The
--- papers are lent for reading alone.)
+-- answers table keeps its contents." The reply is that of a row of the table, what is shown for it is what the row names, and the lent table then holds what the row says. (That
+-- neither paper is altered is said of the code, by slack's `Unaltered`.)
 abbrev pub Tabled : Judging → Type 0
 Tabled f = (d c t : List ℕ) → Row d c t (f d c t .reply) (shownOf d c (f d c t .reply)) (f d c t .table)
 
 abbrev pub AnswersTabled : Answering → Type 0
-AnswersTabled g = (d t : List ℕ) → AnswersRow d t (g d t .reply) (partShown d (g d t .reply)) (g d t .table)
+AnswersTabled g = (d c t : List ℕ) → AnswersRow d t (g d t .reply) (shownBy d c (g d t .reply)) (g d t .table)
 
 pub record Demand1 (f : Judging) (g : Answering) : Type 0 where
   pub judge : Tabled f
@@ -80,20 +79,25 @@ TableEnough = (f : Judging) → Tabled f → Demand2 f × Demand3 f
 pub record OneRow : Type 0 where
   pub some : (d c t : List ℕ) → (r : Reply) × ((us : List ℕ) × ((u : List ℕ) × Row d c t r us u))
   pub once : (d c t : List ℕ) (r q : Reply) (us vs u v : List ℕ) → Row d c t r us u → Row d c t q vs v → (r ≡ q) × (us ≡ vs) × (u ≡ v)
-  pub answersSome : (d t : List ℕ) → (r : Answered) × ((us : List ℕ) × ((u : List ℕ) × AnswersRow d t r us u))
-  pub answersOnce : (d t : List ℕ) (r q : Answered) (us vs u v : List ℕ) → AnswersRow d t r us u → AnswersRow d t q vs v → (r ≡ q) × (us ≡ vs) × (u ≡ v)
+  pub answersSome : (d t : List ℕ) → (r : Written) × ((us : List ℕ) × ((u : List ℕ) × AnswersRow d t r us u))
+  pub answersOnce : (d t : List ℕ) (r q : Written) (us vs u v : List ℕ) → AnswersRow d t r us u → AnswersRow d t q vs v → (r ≡ q) × (us ≡ vs) × (u ≡ v)
+
+-- "a refused answers table keeps its contents"; the judge's table keeps them but on 14 and 15: "Other replies leave it untouched" (A5)
+pub record TablesKept : Type 0 where
+  pub judge : (d c t : List ℕ) (r : Reply) (us u : List ℕ) → Row d c t r us u → (numberOf (r .verdict) ≡ some 14 → ⊥) → (numberOf (r .verdict) ≡ some 15 → ⊥) → u ≡ t
+  pub answers : (d t : List ℕ) (r : Reply) (us u : List ℕ) → AnswersRow d t (Refused r) us u → u ≡ t
 
 -- A refusal's number is in the table; with 64 words lent it is not 18 (A5).
 pub record Numbers : Type 0 where
   pub judge : (d c t : List ℕ) (r : Reply) (us u : List ℕ) → Row d c t r us u → (k : ℕ) → numberOf (r .verdict) ≡ some k → (1 ≤ k) × (k ≤ 18) × (64 ≤ length t → k ≤ 17)
-  pub answers : (d t : List ℕ) (r : Answered) (us u : List ℕ) → AnswersRow d t r us u → (k p w : ℕ) → r ≡ Refused k p w → (1 ≤ k) × (k ≤ 18)
+  pub answers : (d t : List ℕ) (r : Reply) (us u : List ℕ) → AnswersRow d t (Refused r) us u → (k : ℕ) → numberOf (r .verdict) ≡ some k → (1 ≤ k) × (k ≤ 18)
 
 -- "writes every probe's answer, 0 or 1": 1 exactly when the answer is yes, by the published meaning
 abbrev pub AnswersMeant : Type 0
 AnswersMeant = (D : Dossier) (j : ℕ) (e : Entry) → at (D .probes) j ≡ some e → (wordTo D j ≤ 1) × ((wordTo D j ≡ 1) ↔ Yes D (policy D) e)
 
--- The numbers that 14 and 15 write, by the published meaning: "an atom holds exactly when its number is not 0", "the number is at most 64 for sound papers" (A5). What else they
--- are, meaning's `FirstRounds` says.
+-- The numbers that 14 and 15 write (A5), by the published meaning: an atom holds exactly when its number is not 0, and no number is above 64. What else they are, meaning's
+-- `FirstRounds` says.
 abbrev pub RoundsMeant : Type 0
 RoundsMeant =
     (D : Dossier) (W : Policy) → DossierForm D → SoundFor D (witness W) → (e : Entry) (a : ℕ)

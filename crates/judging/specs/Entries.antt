@@ -2,7 +2,7 @@
 use Prim.Native.Nat.{ℕ}
 use mathlib.Core.List.{List}
 use Rattle.reply.specs.declared.Reply.{Reply}
-use Rattle.judging.specs.declared.Answered.{Answered}
+use Rattle.reply.specs.declared.Written.{Written}
 
 -- the reply, and what the lent table then holds
 pub record Gives (R : Type 0) : Type 0 where
@@ -14,4 +14,4 @@ abbrev pub Judging : Type 0
 Judging = List ℕ → List ℕ → List ℕ → Gives Reply
 
 abbrev pub Answering : Type 0
-Answering = List ℕ → List ℕ → Gives Answered
+Answering = List ℕ → List ℕ → Gives Written

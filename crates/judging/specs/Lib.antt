@@ -1,9 +1,9 @@
+pub mod Table
+pub mod Entries
+pub mod Demands
+pub mod Cases
+pub mod Grown
 pub mod Judge
 pub mod Rounds
 pub mod Answers
-pub mod Entries
-pub mod Cases
-pub mod Table
-pub mod Demands
-pub mod Grown
 pub mod Former

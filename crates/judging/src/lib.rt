@@ -7,20 +7,17 @@ use promise::Thing;
 use reply::Paper;
 use reply::Reply;
 use reply::Verdict;
+use reply::Written;
 ghost use mathlib.Core.Path.{_≡_};
+ghost use mathlib.Core.List.{List};
+ghost use Prim.Native.Nat.{ℕ};
 ghost use lib.ListN.{length};
 ghost use Rattle.reply.specs.Answer as said;
 ghost use Rattle.judging.specs.Judge.{judgeOf, Sound, Offered};
 ghost use Rattle.judging.specs.Rounds.{roundsAfter};
 ghost use Rattle.judging.specs.Answers.{answersOf, tableAfter};
-ghost use Rattle.judging.specs.Table.{Row, AnswersRow, partShown};
-ghost use Rattle.reply.specs.Shown.{shownOf};
-
-// What the answers entry replies: the count of answers, or the refusal: its number, its place in the dossier, and how many words it shows.
-pub enum Answered {
-    Count(usize),
-    Refused(u16, usize, usize),
-}
+ghost use Rattle.judging.specs.Table.{Row, AnswersRow};
+ghost use Rattle.reply.specs.Shown.{shownOf, shownBy};
 
 // A refusal.
 fn refused(number: u16, paper: Paper, place: usize, count: usize) -> Reply
@@ -69,28 +66,29 @@ pub fn judge(dossier: &[u16], certificate: &[u16], rounds: &mut [u16]) -> Reply
 }
 
 // With the dossier sound: 18, then the answers.
-fn answers_with(d: &[u16], o: Layout, table: &mut [u16]) -> Answered
+fn answers_with(d: &[u16], o: Layout, table: &mut [u16]) -> Written
     requires { ⌜ Sound (now d) o ⌝ }
     ensures { λ r. ⌜ (r ≡ answersOf (now (d .entry)) (now (table .entry))) × (now (table .exit) ≡ tableAfter (now (d .entry)) (now (table .entry))) ⌝ }
 {
     let n = o.nprobes;
     if table.len() < n {
-        return Answered::Refused(18, 0, 0);
+        return Written::Refused(refused(18, Paper::Dossier, 0, 0));
     }
     let mut creds = [0usize; 32];
     let mut probes = [0usize; 64];
     promise::starts(d, o.creds, o.ncreds, Thing::Credential, &mut creds);
     promise::starts(d, o.probes, n, Thing::Entry, &mut probes);
     evaluation::answers(d, o, &creds, &probes, d, table);
-    Answered::Count(n)
+    Written::Count(n)
 }
 
-// Every probe's answer, 0 or 1, from the table's start; words beyond stay. A refusal leaves the table as it was.
-pub fn answers(dossier: &[u16], table: &mut [u16]) -> Answered
-    ensures { λ r. ⌜ AnswersRow (now (dossier .entry)) (now (table .entry)) r (partShown (now (dossier .entry)) r) (now (table .exit)) ⌝ }
+// Every probe's answer, 0 or 1, from the table's start; words beyond stay. A refusal is about the dossier and leaves the table as it was; `shown` shows its words, whatever
+// certificate it is handed beside the dossier.
+pub fn answers(dossier: &[u16], table: &mut [u16]) -> Written
+    ensures { λ r. ⌜ ((c : List ℕ) → AnswersRow (now (dossier .entry)) (now (table .entry)) r (shownBy (now (dossier .entry)) c r) (now (table .exit))) ⌝ }
 {
     match dossier::dossier(dossier) {
-        Form::Refused(e, p, w) => Answered::Refused(e, p, w),
+        Form::Refused(e, p, w) => Written::Refused(refused(e, Paper::Dossier, p, w)),
         Form::Sound(o) => answers_with(dossier, o, table),
     }
 }

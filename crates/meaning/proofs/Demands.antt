@@ -1,6 +1,6 @@
 -- The theorems of specs/Demands.antt, each under its name in small letters.
 use mathlib.Core.Path.{_≡_, refl, sym, ap, _∙_}
-use mathlib.Core.Bool.{not, Bool·not-not}
+use mathlib.Core.Bool.{Bool·not-not}
 use mathlib.Core.List.{List, _∷_, List·Memᴰ·head, List·Memᴰ·tail, Memᴰ·append-left}
 use Prim.Native.Nat.{suc}
 use native.Mathlib.Omega.{arith}
@@ -10,7 +10,7 @@ use Rattle.meaning.specs.Papers.{Entry, Dossier, policy, visible, answer
 use Rattle.meaning.specs.Looks.{aim, Detectable, Opaque}
 use Rattle.meaning.specs.Verdict.{opaque, detectable, tried, WitnessAccepted, ProofAccepted}
 use Rattle.meaning.specs.Extends.{Extends, WellNamed}
-use Rattle.meaning.specs.Demands.{HoldsTested, HoldsDerived, RoundsEnough, FirstRounds, TruthTested, LooksLikeItself, AimMeant, DetectableTested, OpaqueTested, PolicyIsSet, LineSound, NotBoth, When, WitnessShows, Demand2, Demand3}
+use Rattle.meaning.specs.Demands.{HoldsTested, HoldsDerived, RoundsEnough, FirstRounds, TruthTested, LooksLikeItself, AimMeant, DetectableTested, OpaqueTested, PolicyIsSet, LineSound, NotBoth, When, WitnessShows, Demand2, ExtensionKeeps, Demand3}
 use Rattle.meaning.proofs.Tests.{not-self, not-opposite}
 use Rattle.meaning.proofs.Rounds.{holds-tested, holds-derived, rounds-holds}
 use Rattle.meaning.proofs.First.{first-rounds}
@@ -18,7 +18,7 @@ use Rattle.meaning.proofs.Truth.{truth-tested, value-tested, alike-test
 use Rattle.meaning.proofs.Sound.{line-sound, none-denies}
 use Rattle.meaning.proofs.Sets.{rounds-same, holding-same, first-same-set, answers-same}
 use Rattle.meaning.proofs.Verdict.{own-visible, tried-visible, judge-exactly}
-use Rattle.meaning.proofs.Extends.{policy-same, aim-same, answer-same, line-up}
+use Rattle.meaning.proofs.Extends.{extension-keeps, policy-same, aim-same, answer-same, line-up}
 
 pub holdsTested : HoldsTested
 holdsTested = holds-tested
@@ -74,6 +74,9 @@ demand2 = judge-exactly
 
 -- ---- demand 3
 
+pub extensionKeeps : ExtensionKeeps
+extensionKeeps = extension-keeps
+
 every : (D : Dossier) (lines : List Line) → ProofAccepted D lines → Detectable D
 unfolding Detectable When aim
 every D lines h Q l =
@@ -111,7 +114,7 @@ module _ (D E : Dossier) (x : Extends D E) (wn : WellNamed D) where
             alike = λ e m. alike-tested D (policy D) (tried D W) e .1 (
                 sym (entry-same e (List·Memᴰ·tail m))
                 ∙ alike-tested E (policy E) (tried E W) e .0 (l .alike e (rw (x .probes) (Memᴰ·append-left (x .newProbes) m)))
-                ∙ (rw (policy-same D E x wn) (answer-same D E x wn (policy D) e (List·Memᴰ·tail m)))
+                ∙ (rw (policy-same D E x) (answer-same D E x wn (policy D) e (List·Memᴰ·tail m)))
                 );
           },
           λ y. v (alike-tested E (policy E) (tried E W) (E .secret) .1 (

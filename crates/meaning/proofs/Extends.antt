@@ -14,7 +14,8 @@ use Rattle.meaning.specs.Papers.{Entry, Marked, Dossier, policy, visible
 use Rattle.meaning.specs.Looks.{aim}
 use Rattle.meaning.specs.Rules.{denied, follows, earlier, lineFollows}
 use Rattle.meaning.specs.Extends.{MoreVisible, done, next, Extends, WellNamed}
-use Rattle.meaning.proofs.Tests.{and-both, and-of, or-cases, or-left, or-right, named-at, named-of, all-at, all-of, at-mem, at-append}
+use Rattle.meaning.specs.Demands.{ExtensionKeeps}
+use Rattle.meaning.proofs.Tests.{and-both, and-of, or-cases, or-left, or-right, named-at, named-of, all-at, all-of, keep-at, keep-of, map-at, map-of, at-mem, mem-index, at-append}
 
 -- ---- more credentials do not change what those named give
 
@@ -52,7 +53,7 @@ marks-at (next e f r) (suc i) h = marks-at r i h
 
 -- ---- D and E
 
-module _ (D E : Dossier) (x : Extends D E) (named-creds : WellNamed D) where
+module _ (D E : Dossier) (x : Extends D E) where
   creds-up : (i : ℕ) {c : Clause} → at (D .creds) i ≡ some c → at (E .creds) i ≡ some c
   creds-up i h = rw (x .creds) (at-append (D .creds) (x .newCreds) i h)
 
@@ -63,19 +64,40 @@ module _ (D E : Dossier) (x : Extends D E) (named-creds : WellNamed D) where
   unfolding policy
   policy-same = marks-policy (x .marks)
 
+  visible-up : (c : Clause) → c ∈ visible D → c ∈ visible E
+  unfolding visible
+  visible-up c m =
+      let (a, n, e) = map-at (λ (y : Marked). y .clause) _ m in
+      let (there, v) = keep-at (λ (y : Marked). y .visible) _ n in
+      let (i, _, h) = mem-index there in
+      let (b, k, f, up) = marks-at (x .marks) i h in
+      rw (e ∙ f) (map-of (λ (y : Marked). y .clause) (keep-of (λ (y : Marked). y .visible) (at-mem _ i k) (up v)))
+
+pub extension-keeps : ExtensionKeeps
+extension-keeps =
+    record {
+      labels = λ D E x. x .labels;
+      policy = policy-same;
+      secret = λ D E x. x .secret;
+      visible = visible-up;
+      credential = λ D E x i c h. creds-up D E x i h;
+      probe = λ D E x k e h. probes-up D E x k h;
+    }
+
+module _ (D E : Dossier) (x : Extends D E) (named-creds : WellNamed D) where
   pub answer-same : (P : Policy) (e : Entry) → e ∈ (D .secret ∷ D .probes) → answer E P e ≡ answer D P e
   unfolding answer WellNamed
   answer-same P e m = rw (x .creds) (truth-more (D .creds) (x .newCreds) P (e .creds) (named-creds e m) (e .formula))
 
   pub aim-same : aim E ≡ aim D
   unfolding aim
-  aim-same = ap₂ (answer E) policy-same (x .secret) ∙ answer-same (policy D) (D .secret) (List·Memᴰ·head refl)
+  aim-same = ap₂ (answer E) (policy-same D E x) (x .secret) ∙ answer-same (policy D) (D .secret) (List·Memᴰ·head refl)
 
   follows-up : (before : List Line) (ls : List Literal) (r : Rule) → follows D before ls r ≡ true → follows E before ls r ≡ true
   unfolding follows
   follows-up before ls (Rule.probe k) h =
       let (e, ee, v) = named-at _ _ h in
-      named-of _ (probes-up k ee) (rw (policy-same, answer-same (policy D) e (List·Memᴰ·tail (at-mem _ _ ee))) v)
+      named-of _ (probes-up D E x k ee) (rw (policy-same D E x, answer-same (policy D) e (List·Memᴰ·tail (at-mem _ _ ee))) v)
   follows-up before ls Rule.secret h = rw (aim-same, x .secret) h
   follows-up before ls (Rule.clause i j) h =
       let (m, em, g) = named-at _ _ h in
@@ -86,7 +108,7 @@ module _ (D E : Dossier) (x : Extends D E) (named-creds : WellNamed D) where
   follows-up before ls (Rule.assumed j) h = h
   follows-up before ls (Rule.credential c j) h =
       let (d, ed, g) = named-at _ _ h in
-      named-of _ (creds-up c ed) g
+      named-of _ (creds-up D E x c ed) g
   follows-up before ls (Rule.cut j i) h =
       let (l, el, g) = named-at _ _ h in
       let (m, em, v) = named-at _ _ g in
@@ -96,10 +118,10 @@ module _ (D E : Dossier) (x : Extends D E) (named-creds : WellNamed D) where
       covered : (l : Literal) (c : ℕ) → (mem c (l .said .creds) ≡ true) ⊎ (named (at (D .creds) c) (λ d. denied ls (l .said) (d .head)) ≡ true)
           → mem c (l .said .creds) or named (at (E .creds) c) (λ d. denied ls (l .said) (d .head)) ≡ true
       covered l c (inl p) = or-left _ p
-      covered l c (inr p) = let (d, ed, v) = named-at _ _ p in or-right _ (named-of _ (creds-up c ed) v)
+      covered l c (inr p) = let (d, ed, v) = named-at _ _ p in or-right _ (named-of _ (creds-up D E x c ed) v)
   follows-up before ls (Rule.without c i j k) h =
       let (d, ed, g) = named-at _ _ h in
-      named-of _ (creds-up c ed) g
+      named-of _ (creds-up D E x c ed) g
   follows-up before ls (Rule.resolve u v i j) h = h
 
   pub line-up : (lines : List Line) (k : ℕ) → lineFollows D lines k ≡ true → lineFollows E lines k ≡ true

@@ -1,16 +1,15 @@
 -- A policy is a set: neither order nor repetition of its clauses matters, nor of a body's atoms.
 use mathlib.Core.Path.{_≡_, refl, sym, ap, ap₂, _∙_}
-use mathlib.Core.Bool.{Bool, true, false, not}
+use mathlib.Core.Bool.{Bool, not}
 use mathlib.Core.List.{List, [], _++_, map, List·Memᴰ·append-cases, Memᴰ·append-right}
 use mathlib.Core.Logic.{_⊎_, inl, inr, _↔_}
 use Prim.Native.Nat.{ℕ, zero, suc}
-use native.Mathlib.Omega.{arith}
 use Rattle.meaning.specs.Tests.{_∈_, _and_, _or_}
 use Rattle.meaning.specs.Policy.{Clause, Policy, fact, round, after, Holds, firstRound}
-use Rattle.meaning.specs.Formula.{Formula, always, atom, neg, conj, disj, read, chosen, joined, Given, given, truth}
+use Rattle.meaning.specs.Formula.{Formula, always, atom, neg, conj, disj, read, chosen, joined, given, truth}
 use Rattle.meaning.specs.Papers.{Entry, Dossier, answer}
 use Rattle.meaning.specs.Looks.{Has, Alike}
-use Rattle.meaning.specs.Demands.{Lowest, SameSet}
+use Rattle.meaning.specs.Demands.{SameSet}
 use Rattle.meaning.proofs.Tests.{together, all-of}
 use Rattle.meaning.proofs.Rounds.{In, round-keeps, round-adds, round-least, holds-tested}
 use Rattle.meaning.proofs.First.{first-rounds}

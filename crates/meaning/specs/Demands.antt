@@ -9,6 +9,7 @@ use lib.ListN.{length}
 use Rattle.meaning.specs.Tests.{_∈_, at}
 use Rattle.meaning.specs.Policy.{Clause, Policy, after, Holds, holds, firstRound, Derivable}
 use Rattle.meaning.specs.Formula.{Formula, Truth, truth}
+use Rattle.meaning.specs.Papers as papers
 use Rattle.meaning.specs.Papers.{Entry, Dossier, policy, Yes, answer, Rule, resolve, Line, Certificate, witness, proof}
 use Rattle.meaning.specs.Looks.{Has, Alike, LookTheSame, Detectable, Opaque, aim, Value, TrueLine}
 use Rattle.meaning.specs.Rules.{follows, lineFollows}
@@ -42,17 +43,17 @@ pub record FirstAdds (P : Policy) (c : Clause) (k : ℕ) : Type 0 where
   pub body : (b : ℕ) → b ∈ c .body → after P k b ≡ true
   pub head : after P k (c .head) ≡ false
 
--- What request A5 says of the numbers.
+-- "for each atom, the number of the round that first adds it, 0 if none does" (A5)
 pub record FirstRounds : Type 0 where
-  -- "the least round that has a"
+  -- it is the least round that has the atom
   pub least : (P : Policy) (a k : ℕ) → (firstRound P a ≡ suc k) ↔ Lowest (λ j. after P j a ≡ true) (suc k)
-  -- "0 where none does": "an atom holds exactly when its number is not 0"
+  -- and 0 where none has it: an atom holds exactly when its number is not 0
   pub holding : (P : Policy) (a : ℕ) → Holds P a ↔ (firstRound P a ≡ 0 → ⊥)
-  -- "a fact: 1"
+  -- a fact's head has 1
   pub facts : (P : Policy) (c : Clause) → c ∈ P → c .body ≡ [] → firstRound P (c .head) ≡ 1
   -- with every head below n, it is at most n
   pub limit : (n : ℕ) (P : Policy) → ((c : Clause) → c ∈ P → c .head < n) → (a : ℕ) → firstRound P a ≤ n
-  -- "a clause which first adds an atom in round k has its body atoms added before round k"
+  -- a clause which first adds an atom in round k has its body atoms added before round k
   pub before : (P : Policy) (c : Clause) (k : ℕ) → FirstAdds P c k
       → (firstRound P (c .head) ≡ suc k) × ((b : ℕ) → b ∈ c .body → (1 ≤ firstRound P b) × (firstRound P b < suc k))
   -- and each atom that has a number is first added by such a clause
@@ -155,6 +156,16 @@ LineSound =
     → (before : List Line) (l : Line) → CitedTrue D Q before (l .rule) → follows D before (l .literals) (l .rule) ≡ true → TrueLine D Q l
 
 -- ---- Demand 3, over demand 2's acceptance
+
+-- "D plus credentials or probes added after D's own, or more clauses marked visible" has all else as D has it.
+pub record ExtensionKeeps : Type 0 where
+  pub labels : (D E : Dossier) → Extends D E → E .labels ≡ D .labels
+  pub policy : (D E : Dossier) → Extends D E → papers.policy E ≡ papers.policy D
+  pub secret : (D E : Dossier) → Extends D E → E .secret ≡ D .secret
+  -- what was visible stays so, and what D's own numbers name they name in E
+  pub visible : (D E : Dossier) → Extends D E → (c : Clause) → c ∈ papers.visible D → c ∈ papers.visible E
+  pub credential : (D E : Dossier) → Extends D E → (i : ℕ) (c : Clause) → at (D .creds) i ≡ some c → at (E .creds) i ≡ some c
+  pub probe : (D E : Dossier) → Extends D E → (k : ℕ) (e : Entry) → at (D .probes) k ≡ some e → at (E .probes) k ≡ some e
 
 pub record Demand3 : Type 0 where
   -- "every policy of any length with D's visible clauses and D's probe answers": the secret "has the policy's value" (A2)

@@ -8,3 +8,4 @@ pub mod Verdict
 pub mod Extends
 pub mod Demands
 pub mod Former
+pub mod Example

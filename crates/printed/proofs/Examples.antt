@@ -4,9 +4,9 @@ use mathlib.Core.List.{[], _∷_, List·Memᴰ·head}
 use Rattle.reply.specs.Part.{partOf}
 use Rattle.reply.specs.Shown.{shownOf}
 use Rattle.reply.specs.declared.Paper.the-variants.{Certificate}
+use Rattle.reply.specs.declared.Written.the-variants.{Count}
 use Rattle.judging.specs.Answers.{answersOf, tableAfter}
 use Rattle.judging.specs.Cases.{T1}
-use Rattle.judging.specs.declared.Answered.the-variants.{Count}
 use Rattle.judging.proofs.Cases.{Computes, computed}
 use Rattle.text.specs.Line.{digitsOf, decimal}
 use Rattle.printed.specs.Lists.{spaced, spacedAll, listOf, answersHead, answersLine, asking, shownHead, shownLine}

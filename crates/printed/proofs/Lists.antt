@@ -12,15 +12,15 @@ use Rattle.reply.specs.declared.Paper.{Paper}
 use Rattle.reply.specs.declared.Paper.the-variants.{Dossier, Certificate}
 use Rattle.reply.specs.Shown.{ofPaper, shownOf}
 use Rattle.reply.specs.declared.Reply.{Reply}
+use Rattle.reply.specs.declared.Written.{Written}
+use Rattle.reply.specs.declared.Written.the-variants.{Count, Refused}
 use Rattle.judging.specs.Judge.{judgeOf}
 use Rattle.judging.specs.Rounds.{roundsAfter}
 use Rattle.judging.specs.Answers.{answersOf, tableAfter}
 use Rattle.judging.proofs.Lengths.{table-length, rounds-length}
-use Rattle.judging.specs.declared.Answered.{Answered}
-use Rattle.judging.specs.declared.Answered.the-variants.{Count, Refused}
 use Rattle.text.specs.Line.{digitsOf, decimal, replyText}
 use Rattle.text.proofs.Value.{valueOf, digits-mean}
-use Rattle.text.proofs.Put.{digits-short, refusal-short, reply-short, put-none, put-length, Placed, placed-more}
+use Rattle.text.proofs.Put.{digits-short, reply-short, put-none, put-length, Placed, placed-more}
 use Rattle.printed.specs.Lists.{spaced, spacedAll, listOf, answersHead, answersLine, roundsLine, shownHead, shownLine}
 
 pub spaced-short : (w : ℕ) → length (spaced w) ≤ 6
@@ -68,10 +68,10 @@ pub titled-short : (title : List ℕ) (n : ℕ) {r : ℕ} → r ≡ length (titl
 unfolding decimal
 titled-short title n e = omega (arith, length-append title (digitsOf 20 n), digits-short 20 n)
 
-pub head-short : (r : Answered) → length (answersHead r) ≤ 82
+pub head-short : (r : Written) → length (answersHead r) ≤ 82
 unfolding answersHead decimal
 head-short (Count n) = simp length-append (omega (arith, digits-short 20 n))
-head-short (Refused number place count) = refusal-short number Dossier place count
+head-short (Refused reply) = reply-short reply
 
 pub shown-head-short : (ws : List ℕ) → length (shownHead ws) ≤ 26
 unfolding shownHead decimal
@@ -94,9 +94,9 @@ shown-few d c r = go (r .paper) (part-few d (r .place) (r .count)) (part-few c (
     go Certificate h k = omega arith
 
 -- the lines, of what was replied and of what was shown
-pub answers-line-is : (d t : List ℕ) {r : Answered} {u : List ℕ} → r ≡ answersOf d t → u ≡ tableAfter d t → answersHead r ++ listOf u ≡ answersLine d t
+pub answers-line-is : (d t : List ℕ) {r : Written} {u : List ℕ} → r ≡ answersOf d t → u ≡ tableAfter d t → answersHead r ++ listOf u ≡ answersLine d t
 unfolding answersLine
-answers-line-is d t e f = ap₂ (λ (x : Answered) (y : List ℕ). answersHead x ++ listOf y) e f
+answers-line-is d t e f = ap₂ (λ (x : Written) (y : List ℕ). answersHead x ++ listOf y) e f
 
 pub rounds-line-is : (d c t : List ℕ) {r : Reply} {u : List ℕ} → r ≡ judgeOf d c (length t) → u ≡ roundsAfter d c t → replyText r ++ listOf u ≡ roundsLine d c t
 unfolding roundsLine

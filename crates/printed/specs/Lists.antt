@@ -5,15 +5,14 @@ use mathlib.Core.List.{List, [], _∷_, _++_}
 use lib.ListN.{length}
 use Rattle.reply.specs.Shown.{shownOf}
 use Rattle.reply.specs.declared.Paper.{Paper}
-use Rattle.reply.specs.declared.Paper.the-variants.{Dossier}
 use Rattle.reply.specs.declared.Verdict.the-variants.{Opaque}
 use Rattle.reply.specs.declared.Reply.{Reply}
+use Rattle.reply.specs.declared.Written.{Written}
+use Rattle.reply.specs.declared.Written.the-variants.{Count, Refused}
 use Rattle.judging.specs.Judge.{judgeOf}
 use Rattle.judging.specs.Rounds.{roundsAfter}
 use Rattle.judging.specs.Answers.{answersOf, tableAfter}
-use Rattle.judging.specs.declared.Answered.{Answered}
-use Rattle.judging.specs.declared.Answered.the-variants.{Count, Refused}
-use Rattle.text.specs.Line.{digitsOf, decimal, refusalOf, replyText}
+use Rattle.text.specs.Line.{digitsOf, decimal, replyText}
 
 -- a word after a space; a number below 65,536 has at most 5 digits
 unfoldable pub spaced : ℕ → List ℕ
@@ -27,12 +26,12 @@ spacedAll (w ∷ ws) = spaced w ++ spacedAll ws
 unfoldable pub listOf : List ℕ → List ℕ
 listOf ws = (32 ∷ 58 ∷ []) ++ spacedAll ws ++ (10 ∷ [])
 
--- ANSWERS and the count, or the refusal, which is about the dossier
-unfoldable pub answersHead : Answered → List ℕ
+-- ANSWERS and the count, or the refusal
+unfoldable pub answersHead : Written → List ℕ
 answersHead (Count n) = (65 ∷ 78 ∷ 83 ∷ 87 ∷ 69 ∷ 82 ∷ 83 ∷ 32 ∷ []) ++ decimal n
-answersHead (Refused number place count) = refusalOf number Dossier place count
+answersHead (Refused reply) = replyText reply
 
--- the line of the answers entry for the dossier d and the lent table t: the reply, and the table after it
+-- the line of the answers entry for the dossier d and the lent table t: what it answers, and the table after it
 unfoldable pub answersLine : List ℕ → List ℕ → List ℕ
 answersLine d t = answersHead (answersOf d t) ++ listOf (tableAfter d t)
 

@@ -1,8 +1,8 @@
 // The lines that the programs print: of the judge's reply, of standard input, of the answers, and of shown words.
-use judging::Answered;
 use reply::Paper;
 use reply::Reply;
 use reply::Verdict;
+use reply::Written;
 use text::Input;
 ghost use mathlib.Core.Path.{_≡_};
 ghost use mathlib.Core.List.{_++_};
@@ -104,28 +104,26 @@ fn headed(title: &[u8], n: usize, out: &mut [u8]) -> usize
     text::digits(n, 20, out, p)
 }
 
-// Writes what the answers entry replied at the table's start, without a line feed. Answers how many bytes it has.
-fn answers_head(reply: Answered, out: &mut [u8]) -> usize
+// Writes what the answers entry answered at the table's start, without a line feed. Answers how many bytes it has.
+fn answers_head(answer: Written, out: &mut [u8]) -> usize
     requires { ⌜ 96 ≤ length (now out) ⌝ }
-    ensures { λ r. ⌜ (now (out .exit) ≡ put (now (out .entry)) 0 (answersHead reply)) × (r ≡ length (answersHead reply)) ⌝ }
+    ensures { λ r. ⌜ (now (out .exit) ≡ put (now (out .entry)) 0 (answersHead answer)) × (r ≡ length (answersHead answer)) ⌝ }
 {
-    match reply {
-        Answered::Count(n) => headed(b"ANSWERS ", n, out),
-        Answered::Refused(number, place, count) => {
-            text::refusal(number, Paper::Dossier, place, count, out)
-        }
+    match answer {
+        Written::Count(n) => headed(b"ANSWERS ", n, out),
+        Written::Refused(reply) => text::reply_text(reply, out),
     }
 }
 
-// The line of the answers entry: its reply, and then the whole of the table, which it was lent. Answers how many bytes the line has.
+// The line of the answers entry: what it answers, and then the whole of the table, which it was lent. Answers how many bytes the line has.
 pub fn answers_line(dossier: &[u16], table: &mut [u16], out: &mut [u8]) -> usize
     requires { ⌜ 96 + 6 * length (now table) ≤ length (now out) ⌝ }
     ensures { λ r. ⌜ (now (out .exit) ≡ put (now (out .entry)) 0 (answersLine (now (dossier .entry)) (now (table .entry))))
         × (r ≡ length (answersLine (now (dossier .entry)) (now (table .entry))))
         × (now (table .exit) ≡ tableAfter (now (dossier .entry)) (now (table .entry))) ⌝ }
 {
-    let reply = judging::answers(dossier, table);
-    let p = answers_head(reply, out);
+    let answer = judging::answers(dossier, table);
+    let p = answers_head(answer, out);
     list(table, out, p)
 }
 

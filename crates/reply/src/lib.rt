@@ -23,6 +23,12 @@ pub struct Reply {
     pub count: usize,
 }
 
+// What an entry that writes into a lent table answers: how many words (or bytes) it has written, or its refusal, a reply whose words `shown` shows.
+pub enum Written {
+    Count(usize),
+    Refused(Reply),
+}
+
 // So many words of `s` from the place on; the empty part at the end of `s` where they don't fit.
 fn part_of(s: &[u16], place: usize, count: usize) -> &[u16]
     ensures { λ r. ⌜ (now r ≡ partOf (now (s .entry)) place count) × (ptr r ≡ partAt (s .entry) place count) ⌝ }

@@ -4,19 +4,20 @@ use mathlib.Core.Path.{_≡_, refl, sym, ap, ap₂, _∙_}
 use mathlib.Core.Bool.{not}
 use mathlib.Core.List.{List, [], _∷_, List·Memᴰ·head, List·Memᴰ·tail, List·Memᴰ·not-nil}
 use native.Mathlib.Omega.{arith}
-use lib.ListN.{length, getD, replicate, length-replicate}
+use lib.ListN.{length, getD, replicate}
 use Rattle.words.specs.Out.{got}
 use Rattle.meaning.specs.Policy.{Policy, fact}
-use Rattle.meaning.specs.Papers.{Entry, Dossier, policy, visible, answer, Certificate, witness, proof}
+use Rattle.meaning.specs.Papers.{Dossier, policy, visible, answer, Certificate, witness, proof}
 use Rattle.meaning.specs.Looks.{Alike, aim}
 use Rattle.meaning.specs.Verdict.{Outcome, opaque, detectable, probeDiffers, lineFails, tried, judge}
 use Rattle.meaning.specs.Demands.{When}
 use Rattle.meaning.proofs.Demands as shown
 use Rattle.meaning.proofs.Demands.{notBoth, witnessShows}
-use Rattle.meaning.proofs.Example.{t1, t2, p, witness-example}
+use Rattle.meaning.specs.Example.{t1, t2, p}
+use Rattle.meaning.proofs.Example.{witness-example}
 use Rattle.meaning.proofs.Tests.{not-self}
 use Rattle.meaning.proofs.Truth.{alike-tested}
-use Rattle.promise.specs.Code.{codeDossier, codeCertificate}
+use Rattle.promise.specs.Code.{codeCertificate}
 use Rattle.dossier.specs.Read.{dossier}
 use Rattle.dossier.proofs.Promise.{dossierSound}
 use Rattle.certificate.specs.Read.{certificate}
@@ -25,18 +26,18 @@ use Rattle.reply.specs.Answer.{accepted}
 use Rattle.reply.specs.declared.Reply.{Reply}
 use Rattle.reply.specs.declared.Verdict.{Verdict}
 use Rattle.reply.specs.declared.Verdict.the-variants.{Opaque, Detectable, Refused}
+use Rattle.reply.specs.declared.Written.{Written}
+use Rattle.reply.specs.declared.Written.the-variants as written
+use Rattle.reply.specs.declared.Written.the-variants.{Count}
 use Rattle.judging.specs.Rounds.{roundsAfter}
 use Rattle.judging.specs.Answers.{answersOf, tableAfter}
 use Rattle.judging.specs.Cases.{T1, T2, P, Meets}
 use Rattle.judging.specs.Demands.{Accepts, Demand2}
-use Rattle.judging.specs.Entries.{Judging, Answering}
+use Rattle.judging.specs.Entries.{Judging}
 use Rattle.judging.specs.Table.{Both}
-use Rattle.judging.specs.declared.Answered.{Answered}
-use Rattle.judging.specs.declared.Answered.the-variants as given
-use Rattle.judging.specs.declared.Answered.the-variants.{Count}
 use Rattle.judging.proofs.Cases.{compute}
 use Rattle.judging.proofs.Table.{row-replied, row-kept}
-use Rattle.slack.specs.Builds.{EarlierSave, Broken, EmptyBuilds}
+use Rattle.slack.specs.Builds.{EarlierSave, EmptyBuilds}
 
 -- ---- what the definitions compute
 
@@ -102,9 +103,9 @@ kind (Refused e) = 2
 kindOf : Reply → ℕ
 kindOf r = kind (r .verdict)
 
-countIn : Answered → ℕ
+countIn : Written → ℕ
 countIn (Count k) = k
-countIn (given.Refused e p w) = 0
+countIn (written.Refused r) = 0
 
 module _ (f : Judging) where
   -- what f says of the papers' codes it says of their words, and back
@@ -191,15 +192,15 @@ emptyBuilds f g =
             λ m. let z : _≡_ {A = ℕ} 0 2 = ap kindOf (sym (said f t1-none Opaque lent ok) ∙ m lent refl) in omega arith,
           );
       untouched = λ h. (
-        λ r. let z : _≡_ {A = ℕ} 7 1 = ap (λ (l : List ℕ). getD l 0 0) (sym (h T1 (7 ∷ 7 ∷ 7 ∷ [])) ∙ row-kept _ _ (r T1 (7 ∷ 7 ∷ 7 ∷ [])) .1 ∙ three-answered .1) in omega arith,
+        λ r. let z : _≡_ {A = ℕ} 7 1 = ap (λ (l : List ℕ). getD l 0 0) (sym (h T1 (7 ∷ 7 ∷ 7 ∷ [])) ∙ row-kept _ _ (r T1 [] (7 ∷ 7 ∷ 7 ∷ [])) .1 ∙ three-answered .1) in omega arith,
         λ m. let z : _≡_ {A = ℕ} 7 1 = ap (λ (l : List ℕ). getD l 0 0) (sym (h T1 (7 ∷ 7 ∷ 7 ∷ [])) ∙ m .1) in omega arith,
       );
       invented = λ k h.
           let t1-count = ap (λ (d : List ℕ). g d (7 ∷ 7 ∷ 7 ∷ []) .reply) (t1-two .dossierWords) ∙ h t1 (7 ∷ 7 ∷ 7 ∷ []) (t1-two .form) (omega arith) in
           let t2-count = ap (λ (d : List ℕ). g d (7 ∷ []) .reply) (t2-two .dossierWords) ∙ h t2 (7 ∷ []) (t2-two .form) (omega arith) in (
             λ r.
-                let a : 2 ≡ k = ap countIn (sym (row-kept _ _ (r T1 (7 ∷ 7 ∷ 7 ∷ [])) .0 ∙ three-answered .0) ∙ t1-count) in
-                let b : 1 ≡ k = ap countIn (sym (row-kept _ _ (r T2 (7 ∷ [])) .0 ∙ one-answer) ∙ t2-count) in
+                let a : 2 ≡ k = ap countIn (sym (row-kept _ _ (r T1 [] (7 ∷ 7 ∷ 7 ∷ [])) .0 ∙ three-answered .0) ∙ t1-count) in
+                let b : 1 ≡ k = ap countIn (sym (row-kept _ _ (r T2 [] (7 ∷ [])) .0 ∙ one-answer) ∙ t2-count) in
                 omega arith,
             λ ne m. ne (ap countIn (sym t1-count ∙ m .0)),
           );

@@ -1,5 +1,6 @@
 -- The theorem of specs/NoSlack.antt, under its name in small letters.
 use mathlib.Core.Path.{_≡_, sym, _∙_}
+use mathlib.Core.List.{[]}
 use Rattle.judging.proofs.Table.{row-replied, row-kept}
 use Rattle.slack.specs.NoSlack.{NoSlack}
 
@@ -12,8 +13,8 @@ noSlack =
     record {
       judge = λ κs a x y e f p q. one (row-replied _ _ _ p .0) (row-replied _ _ _ q .0);
       judgeTable = λ κs a x y e f p q. one (row-replied _ _ _ p .1) (row-replied _ _ _ q .1);
-      answers = λ κs a x y e f p q. one (row-kept _ _ p .0) (row-kept _ _ q .0);
-      answersTable = λ κs a x y e f p q. one (row-kept _ _ p .1) (row-kept _ _ q .1);
+      answers = λ κs a x y e f p q. one (row-kept _ _ (p []) .0) (row-kept _ _ (q []) .0);
+      answersTable = λ κs a x y e f p q. one (row-kept _ _ (p []) .1) (row-kept _ _ (q []) .1);
       judgeSound = λ κs a x y e f p q. one (p .reply) (q .reply);
       judgeSoundTable = λ κs a x y e f p q. one (p .table) (q .table);
       lineFollows = λ κs a x y e f p q. one p q;
@@ -61,8 +62,6 @@ noSlack =
       writeTable = λ κs a x y e f p q. one (p .0) (q .0);
       digits = λ κs a x y e f p q. one (p .1) (q .1);
       digitsTable = λ κs a x y e f p q. one (p .0) (q .0);
-      refusal = λ κs a x y e f p q. one (p .1) (q .1);
-      refusalTable = λ κs a x y e f p q. one (p .0) (q .0);
       papersLine = λ κs a x y e f p q. one (p .1) (q .1);
       papersLineTable = λ κs a x y e f p q. one (p .0) (q .0);
       papersAt = λ κs a x y e f p q. one (p .1) (q .1);

@@ -15,11 +15,11 @@ use Rattle.promise.specs.Form.{DossierForm}
 use Rattle.reply.specs.Answer.{accepted, refused}
 use Rattle.reply.specs.declared.Paper.{Paper}
 use Rattle.reply.specs.declared.Verdict.the-variants.{Opaque, Detectable}
+use Rattle.reply.specs.declared.Written.the-variants.{Count}
 use Rattle.judging.specs.Cases.{Meets, caseA, caseB, caseC, caseD, caseE, caseG}
 use Rattle.judging.specs.Demands.{Tabled, AnswersTabled, Accepts, Demand2, Demand3}
 use Rattle.judging.specs.Entries.{Judging, Answering}
 use Rattle.judging.specs.Table.{SoundFor, Long}
-use Rattle.judging.specs.declared.Answered.the-variants.{Count}
 
 -- ---- the builds
 
@@ -67,7 +67,8 @@ pub record Broken (f : Judging) (g : Answering) : Type 0 where
   -- "one that leaves the answers table untouched, or gives an invented count": the same count for every sound dossier and every table that is long enough. (A build that always
   -- says 2 meets (a).)
   pub untouched : ((d t : List ℕ) → g d t .table ≡ t) → (AnswersTabled g → ⊥) × (Meets f g caseA → ⊥)
-  pub invented : (k : ℕ) → ((D : Dossier) (t : List ℕ) → DossierForm D → length (D .probes) ≤ length t → g (codeDossier D) t .reply ≡ Count k) → (AnswersTabled g → ⊥) × ((k ≡ 2 → ⊥) → Meets f g caseA → ⊥)
+  pub invented : (k : ℕ) → ((D : Dossier) (t : List ℕ) → DossierForm D → length (D .probes) ≤ length t → g (codeDossier D) t .reply ≡ Count k)
+      → (AnswersTabled g → ⊥) × ((k ≡ 2 → ⊥) → Meets f g caseA → ⊥)
   -- and builds that do not tell why a probe differed (request A5): one that leaves the lent table untouched; one that tells whether an atom holds, by 0 and 1, and not in which
   -- round it was added
   pub unexplained : ((d c t : List ℕ) → f d c t .table ≡ t) → Tabled f → ⊥

@@ -45,7 +45,6 @@ use Rattle.text.proofs.input_line.Reads as text-input-line
 use Rattle.text.proofs.word_at.Reads as text-word-at
 use Rattle.text.proofs.write.Reads as text-write
 use Rattle.text.proofs.digits.Reads as text-digits
-use Rattle.text.proofs.refusal.Reads as text-refusal
 use Rattle.printed.proofs.papers_line.Reads as printed-papers-line
 use Rattle.printed.proofs.papers_at.Reads as printed-papers-at
 use Rattle.printed.proofs.stdin_line.Reads as printed-stdin-line
@@ -125,8 +124,6 @@ pub record NoSlack : Type 0 where
   pub writeTable : OneTable (λ e. e .1 .0) text-write.Post
   pub digits : OneReply text-digits.Post
   pub digitsTable : OneTable (λ e. e .1 .1 .0) text-digits.Post
-  pub refusal : OneReply text-refusal.Post
-  pub refusalTable : OneTable (λ e. e .1 .1 .1 .1 .0) text-refusal.Post
   -- printed
   pub papersLine : OneReply printed-papers-line.Post
   pub papersLineTable : OneTable (λ e. e .1 .1 .0) printed-papers-line.Post

@@ -122,7 +122,7 @@ fn name(paper: Paper, out: &mut [u8], at: usize) -> usize
 }
 
 // Writes a refusal, without a line feed, at the table's start; the rest of the table stays. Answers how many bytes it has.
-pub fn refusal(number: u16, paper: Paper, place: usize, count: usize, out: &mut [u8]) -> usize
+fn refusal(number: u16, paper: Paper, place: usize, count: usize, out: &mut [u8]) -> usize
     requires { ⌜ 96 ≤ length (now out) ⌝ }
     ensures { λ r. ⌜ (now (out .exit) ≡ put (now (out .entry)) 0 (refusalOf number paper place count)) × (r ≡ length (refusalOf number paper place count)) ⌝ }
 {

@@ -12,6 +12,9 @@ dossier-requires c κs = search needs
 enum-known-e : tie.Need-enum-known-e
 enum-known-e c = search needs
 
+refused-requires : tie.Need-refused-requires
+refused-requires c κs = search needs
+
 enum-known-o : tie.Need-enum-known-o
 enum-known-o c = search needs
 
@@ -22,14 +25,15 @@ answers-with-requires c κs =
 
 returns : tie.Need-returns
 returns c =
-    let a = c .before .before .before .before .before .before .args in
-    kept-row (a .dossier .now) (a .table .now) (answers-refused (a .dossier .now) (a .table .now) (dossier-refused (a .dossier .now) (c .before .before .before .dossier .ensures) (c .before .e .given .1)))
+    let a = c .before .before .before .before .before .before .before .args in
+    λ w. kept-row (a .dossier .now) (a .table .now) w
+    (answers-refused (a .dossier .now) (a .table .now) (dossier-refused (a .dossier .now) (c .before .before .before .before .dossier .ensures) (c .before .before .e .given .1)) (c .refused .ensures))
 
 same-length : tie.Need-same-length
 same-length c = search needs
 
 returns-2 : tie.Need-returns-2
-returns-2 c = kept-row _ _ (c .before .before .answers-with .ensures)
+returns-2 c = λ w. kept-row _ _ w (c .before .before .answers-with .ensures)
 
 pub answers-spec : {M : Type 1} → statement M
 answers-spec =
@@ -37,6 +41,7 @@ answers-spec =
     (tie.spec
     dossier-requires
     enum-known-e
+    refused-requires
     enum-known-o
     answers-with-requires
     returns

@@ -9,11 +9,14 @@ use native.Mathlib.Omega.{arith}
 use Rattle.judging.proofs.answers_with.Statement.{statement}
 use Rattle.judging.proofs.answers_with.Tie as tie
 
+refused-requires : tie.Need-refused-requires
+refused-requires c κs = search needs
+
 returns : tie.Need-returns
 returns c =
-    let start = c .before .before .before in
+    let start = c .before .before .before .before in
     let a = start .args in
-    answers-short (a .d .now) (a .table .now) (a .o) (start .pre) (c .if1 .taken)
+    answers-short (a .d .now) (a .table .now) (a .o) (start .pre) (c .before .if1 .taken) (c .refused .ensures)
 
 slice-aggregate-starts : tie.Need-slice-aggregate-starts
 slice-aggregate-starts c = search needs
@@ -62,6 +65,7 @@ pub answers-with-spec : {M : Type 1} → statement M
 answers-with-spec =
     tie.close
     (tie.spec
+    refused-requires
     returns
     slice-aggregate-starts
     starts-requires

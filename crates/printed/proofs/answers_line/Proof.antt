@@ -1,4 +1,5 @@
 -- `printed::answers_line` meets its contract: what the entry replied, and the table after it.
+use mathlib.Core.List.{[]}
 use native.Mathlib.Omega.{arith}
 use Rattle.printed.proofs.Lists.{head-short, answers-line-is}
 use Rattle.text.proofs.Put.{wrote-more, wrote-is}
@@ -25,7 +26,7 @@ same-length-2 c = search needs
 returns : tie.Need-returns
 returns c =
     let t = c .before .before .before .before .before .before .before .before .before .before .before .before .before .before .before .before .args .out .now in
-    let k = row-kept _ _ (c .before .before .before .before .before .before .before .before .before .before .before .answers .ensures) in
+    let k = row-kept _ _ (c .before .before .before .before .before .before .before .before .before .before .before .answers .ensures []) in
     let w = wrote-is t _ (wrote-more t _ _ (c .before .before .before .before .before .before .before .answers-head .ensures) (c .before .before .list .ensures)) (answers-line-is (c .before .before .before .before .before .before .before .before .before .before .before .before .before .before .before .before .args .dossier .now) (c .before .before .before .before .before .before .before .before .before .before .before .before .before .before .before .before .args .table .now) (k .0) (k .1)) in
     (w .0, w .1, k .1)
 
