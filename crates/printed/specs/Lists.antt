@@ -35,7 +35,7 @@ answersHead (Refused reply) = replyText reply
 unfoldable pub answersLine : List ℕ → List ℕ → List ℕ
 answersLine d t = answersHead (answersOf d t) ++ listOf (tableAfter d t)
 
--- "the judge's line, then ` :` and every word of the table" (A5), for the dossier d, the certificate c and the lent table t
+-- the line of the judge's reply and of the table after it (A5), for the dossier d, the certificate c and the lent table t
 unfoldable pub roundsLine : List ℕ → List ℕ → List ℕ → List ℕ
 roundsLine d c t = replyText (judgeOf d c (length t)) ++ listOf (roundsAfter d c t)
 

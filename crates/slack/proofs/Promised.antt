@@ -35,6 +35,8 @@ answers-keeps g s κs a e h c = subst (λ (u : List ℕ). AnswersRow (now (a .0)
 pub promised : Promised
 promised =
     record {
+      table = λ f. (keeps-tabled f, tabled-keeps f);
+      answersTable = λ g. (keeps-answers g, answers-keeps g);
       demands = λ f g k j.
           let s = keeps-tabled f k in
           let r = keeps-answers g j in

@@ -3,12 +3,13 @@
 use Prim.Native.Nat.{ℕ}
 use mathlib.Core.Path.{_≡_}
 use mathlib.Core.List.{List}
+use mathlib.Core.Logic.{_↔_}
 use contract.Lifetimes.{Lfts}
 use denote.Ref.{RefT, now}
 use denote.Triple.Clauses.{Lasts, atExit}
 use denote.Triple.Entry.{Args}
 use Rattle.judging.specs.Cases.{CasesHold}
-use Rattle.judging.specs.Demands.{Demand1, Demand2, Demand3}
+use Rattle.judging.specs.Demands.{Tabled, AnswersTabled, Demand1, Demand2, Demand3}
 use Rattle.judging.specs.Entries.{Gives, Judging, Answering}
 use Rattle.judging.specs.Grown.{NotEmpty}
 use Rattle.judging.proofs.judge as judging-judge
@@ -41,7 +42,10 @@ pub record Unaltered : Type 0 where
       → (atExit reply-shown.ended κs a ws .0 ≡ a .0) × (atExit reply-shown.ended κs a ws .1 .0 ≡ a .1 .0)
 
 pub record Promised : Type 0 where
-  -- whatever keeps the contracts meets the demands and the cases, and demand 3 is about something
+  -- the contracts are the table
+  pub table : (f : Judging) → Keeps f ↔ Tabled f
+  pub answersTable : (g : Answering) → KeepsAnswers g ↔ AnswersTabled g
+  -- whatever keeps them meets the demands and the cases, and demand 3 is about something
   pub demands : (f : Judging) (g : Answering) → Keeps f → KeepsAnswers g → Demand1 f g × Demand2 f × Demand3 f × CasesHold f g × NotEmpty f
   pub unaltered : Unaltered
   -- there is such a judge, and the contracts allow nothing else than what it gives
