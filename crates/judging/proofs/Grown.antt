@@ -1,6 +1,6 @@
 -- The theorem of specs/Grown.antt: `notEmpty`.
 use Prim.Native.Nat.{ℕ}
-use mathlib.Core.Path.{_≡_, refl, _∙_}
+use mathlib.Core.Path.{_≡_, refl}
 use mathlib.Core.Bool.{Bool, true, false, false≢true}
 use mathlib.Core.List.{List, [], _∷_, _++_}
 use lib.ListN.{length}
@@ -24,7 +24,7 @@ use Rattle.judging.specs.Demands.{Tabled, Accepts}
 use Rattle.judging.specs.Cases.{P}
 use Rattle.judging.specs.Grown.{t1With, Stays, NotEmpty}
 use Rattle.judging.proofs.Cases.{compute}
-use Rattle.judging.proofs.Demands.{same, meant-opaque, meant-detectable}
+use Rattle.judging.proofs.Demands.{witness-row, proof-row, accepts-witness, accepts-proof}
 
 -- a dossier whose words are read is sound
 form : (D : Dossier) {k : ℕ} → dossier (codeDossier D) ≡ got D k → DossierForm D
@@ -51,7 +51,7 @@ module _ (f : Judging) (tabled : Tabled f) where
       → dossier (codeDossier D) ≡ got D i → certificate (length (D .labels)) (length (D .creds)) P ≡ got (proof p) j → meant.judge D (proof p) ≡ meant.detectable
       → dossier (codeDossier E) ≡ got E k → certificate (length (E .labels)) (length (E .creds)) P ≡ got (proof p) l → meant.judge E (proof p) ≡ meant.detectable
       → Stays f Detectable P D E
-  by-proof = stays Detectable P (proof p) meant.detectable λ D form w s t l o. same f tabled _ _ t ∙ meant-detectable D form P (proof p) w s _ l o
+  by-proof = stays Detectable P (proof p) meant.detectable λ D form w s t l o. accepts-proof f tabled D form P t l p w s (proof-row D p .0 o)
 
   pub notEmpty : NotEmpty f
   unfolding compute codeDossier codeCertificate
@@ -64,6 +64,6 @@ module _ (f : Judging) (tabled : Tabled f) where
         mark = by-proof t1 (t1With true [] []) (grows true [] (t1 .probes) []) refl refl refl refl refl refl;
         credential = by-proof t1 (t1With false (fact 2 ∷ []) []) (grows false (fact 2 ∷ []) (t1 .probes) []) refl refl refl refl refl refl;
         toT1 = record { extends = grows false [] (t2 .probes) (entryOf [] 2 ∷ []); before = form t2 refl; after = form t1 refl };
-        witnessed = stays Opaque (1 ∷ 1 ∷ 2 ∷ 0 ∷ []) (witness (fact 2 ∷ [])) meant.opaque (λ D form w s t l o. same f tabled _ _ t ∙ meant-opaque D form _ (witness (fact 2 ∷ [])) w s _ l o)
+        witnessed = stays Opaque (1 ∷ 1 ∷ 2 ∷ 0 ∷ []) (witness (fact 2 ∷ [])) meant.opaque (λ D form w s t l o. accepts-witness f tabled D form _ t l (fact 2 ∷ []) w s (witness-row D (fact 2 ∷ []) .0 o))
             t3 t2 (grows false [] [] (entryOf (0 ∷ []) 2 ∷ [])) refl refl refl refl refl refl;
       }
