@@ -1,5 +1,5 @@
 -- A line that speaks of every statement follows by one of the rules 1, 2, 3, 5, 6, 7, or else the values that make its literals false are those of a witness.
-use mathlib.Core.Path.{_≡_, refl, sym, ap, _∙_}
+use mathlib.Core.Path.{_≡_, refl, ap, _∙_}
 use mathlib.Core.Bool.{Bool, true, false, not, Bool·not-not}
 use mathlib.Core.List.{List, [], _∷_, flatMap, List·Memᴰ·head, List·Memᴰ·tail, Sublistᴰ·refl}
 use mathlib.Core.Option.{Option, some}
@@ -15,9 +15,9 @@ use Rattle.meaning.specs.Looks.{aim}
 use Rattle.meaning.specs.Rules.{supposed, not₃, and₃, or₃, value, _gives_, denied, fires, claims, omit, follows}
 use Rattle.meaning.specs.Verdict.{opaque}
 use Rattle.meaning.specs.Demands.{When}
-use Rattle.meaning.proofs.Tests.{not-self, cases, clash, not-opposite, and-both, and-of, or-right, agree-of, is-refl, same-refl, all-of, any-at, none-at, keep-at, map-at, named-of, at-mem, at-below, mem-at, mem-index}
+use Rattle.meaning.proofs.Tests.{cases, clash, not-opposite, and-both, and-of, or-right, agree-of, is-refl, same-refl, all-of, any-at, none-at, keep-at, map-at, named-of, at-mem, at-below, mem-at, mem-index}
 use Rattle.meaning.proofs.Rounds.{ClosedIn}
-use Rattle.meaning.proofs.Truth.{alike-tested}
+use Rattle.meaning.proofs.Truth.{alike-tested, unlike-tested}
 use Rattle.meaning.proofs.Verdict.{own-visible, tried-visible, judge-exactly}
 use Rattle.completeness.specs.Form.{size, AtomsBelow, WellFormed}
 use Rattle.completeness.specs.Complete.{SomeWitness}
@@ -201,7 +201,7 @@ module _ (D : Dossier) (wf : WellFormed D) (e : List Line) (C : List Literal) (f
         second = tried-visible D W;
         alike = λ x m. alike-tested D (policy D) Q x .1 (probes-alike x m);
       },
-      λ y. not-self (aim D) (sym (alike-tested D (policy D) Q (D .secret) .0 y) ∙ secret-denied),
+      unlike-tested D (policy D) Q (D .secret) .1 secret-denied,
     ),
     own-form D wf val obeys,
   )

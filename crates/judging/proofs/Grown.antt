@@ -6,10 +6,10 @@ use mathlib.Core.List.{List, [], _∷_, _++_}
 use lib.ListN.{length}
 use Rattle.words.specs.Out.{got}
 use Rattle.meaning.specs.Policy.{Clause, fact}
-use Rattle.meaning.specs.Papers.{Entry, Dossier, Certificate, witness, proof}
+use Rattle.meaning.specs.Papers.{Entry, Dossier, witness, proof}
 use Rattle.meaning.specs.Verdict as meant
 use Rattle.meaning.specs.Extends.{Extends, done, next}
-use Rattle.meaning.specs.Example.{entryOf, exampleWith, t1, t2, t3, p}
+use Rattle.meaning.specs.Example.{entryOf, exampleWith, t1, t2, t3, factTwo, p}
 use Rattle.promise.specs.Code.{codeDossier, codeCertificate}
 use Rattle.promise.specs.Form.{DossierForm}
 use Rattle.dossier.specs.Read.{dossier}
@@ -18,7 +18,7 @@ use Rattle.certificate.specs.Read.{certificate}
 use Rattle.certificate.proofs.Promise.{certificateSound}
 use Rattle.reply.specs.declared.Verdict.{Verdict}
 use Rattle.reply.specs.declared.Verdict.the-variants.{Opaque, Detectable}
-use Rattle.judging.specs.Table.{SoundFor, Long}
+use Rattle.judging.specs.Table.{Long}
 use Rattle.judging.specs.Entries.{Judging}
 use Rattle.judging.specs.Demands.{Tabled, Accepts}
 use Rattle.judging.specs.Cases.{P}
@@ -36,22 +36,19 @@ unfolding exampleWith
 grows b cs ps rs = record { labels = refl; marks = next refl (λ h. absurd (false≢true h)) (next refl (λ h. h) done); newCreds = cs; creds = refl; newProbes = rs; probes = refl; secret = refl }
 
 module _ (f : Judging) (tabled : Tabled f) where
-  -- both dossiers are read, and so are the certificate's words, for either; the outcome is known
-  module _ (v : Verdict) (c : List ℕ) (C : Certificate) (o : meant.Outcome) (accepts : (D : Dossier) → DossierForm D → c ≡ codeCertificate C → SoundFor D C → (t : List ℕ) → Long D t → meant.judge D C ≡ o → Accepts f v D c t) where
-    stays : (D E : Dossier) → Extends D E → {i j k l : ℕ}
-        → dossier (codeDossier D) ≡ got D i → certificate (length (D .labels)) (length (D .creds)) c ≡ got C j → meant.judge D C ≡ o
-        → dossier (codeDossier E) ≡ got E k → certificate (length (E .labels)) (length (E .creds)) c ≡ got C l → meant.judge E C ≡ o
-        → Stays f v c D E
-    stays D E x {i} {j} {k} {l} d m p e n q =
-        let (w, s) = certificateSound _ _ c C j m in
-        let (w', s') = certificateSound _ _ c C l n in
-        record { grown = record { extends = x; before = form D d; after = form E e }; before = λ t h. accepts D (form D d) w s t h p; after = λ t h. accepts E (form E e) w' s' t h q }
+  -- D is sound, and c is accepted for it with every table that is long enough
+  abbrev Takes : Verdict → List ℕ → Dossier → Type 0
+  Takes v c D = DossierForm D × ((t : List ℕ) → Long D t → Accepts f v D c t)
 
-  by-proof : (D E : Dossier) → Extends D E → {i j k l : ℕ}
-      → dossier (codeDossier D) ≡ got D i → certificate (length (D .labels)) (length (D .creds)) P ≡ got (proof p) j → meant.judge D (proof p) ≡ meant.detectable
-      → dossier (codeDossier E) ≡ got E k → certificate (length (E .labels)) (length (E .creds)) P ≡ got (proof p) l → meant.judge E (proof p) ≡ meant.detectable
-      → Stays f Detectable P D E
-  by-proof = stays Detectable P (proof p) meant.detectable λ D form w s t l o. accepts-proof f tabled D form P t l p w s (proof-row D p .0 o)
+  stays : {v : Verdict} {c : List ℕ} {D E : Dossier} → Extends D E → Takes v c D → Takes v c E → Stays f v c D E
+  stays x a b = record { grown = record { extends = x; before = a .0; after = b .0 }; before = a .1; after = b .1 }
+
+  -- by what is read, and by the outcome: P, and the witness with the fact 2
+  takes-p : (D : Dossier) {j k : ℕ} → dossier (codeDossier D) ≡ got D j → certificate (length (D .labels)) (length (D .creds)) P ≡ got (proof p) k → meant.judge D (proof p) ≡ meant.detectable → Takes Detectable P D
+  takes-p D {j} {k} e g o = let (w, s) = certificateSound _ _ P (proof p) k g in (form D e, λ t l. accepts-proof f tabled D (form D e) P t l p w s (proof-row D p .0 o))
+
+  takes-two : (D : Dossier) {j k : ℕ} → dossier (codeDossier D) ≡ got D j → certificate (length (D .labels)) (length (D .creds)) (1 ∷ 1 ∷ 2 ∷ 0 ∷ []) ≡ got (witness factTwo) k → meant.judge D (witness factTwo) ≡ meant.opaque → Takes Opaque (1 ∷ 1 ∷ 2 ∷ 0 ∷ []) D
+  takes-two D {j} {k} e g o = let (w, s) = certificateSound _ _ _ (witness factTwo) k g in (form D e, λ t l. accepts-witness f tabled D (form D e) _ t l factTwo w s (witness-row D factTwo .0 o))
 
   pub notEmpty : NotEmpty f
   unfolding compute codeDossier codeCertificate
@@ -60,10 +57,9 @@ module _ (f : Judging) (tabled : Tabled f) where
         words = (refl, refl, refl);
         proofWords = refl;
         witnessWords = refl;
-        probe = by-proof t1 (t1With false [] (entryOf [] 1 ∷ [])) (grows false [] (t1 .probes) (entryOf [] 1 ∷ [])) refl refl refl refl refl refl;
-        mark = by-proof t1 (t1With true [] []) (grows true [] (t1 .probes) []) refl refl refl refl refl refl;
-        credential = by-proof t1 (t1With false (fact 2 ∷ []) []) (grows false (fact 2 ∷ []) (t1 .probes) []) refl refl refl refl refl refl;
+        probe = stays (grows false [] (t1 .probes) (entryOf [] 1 ∷ [])) (takes-p t1 refl refl refl) (takes-p (t1With false [] (entryOf [] 1 ∷ [])) refl refl refl);
+        mark = stays (grows true [] (t1 .probes) []) (takes-p t1 refl refl refl) (takes-p (t1With true [] []) refl refl refl);
+        credential = stays (grows false (fact 2 ∷ []) (t1 .probes) []) (takes-p t1 refl refl refl) (takes-p (t1With false (fact 2 ∷ []) []) refl refl refl);
         toT1 = record { extends = grows false [] (t2 .probes) (entryOf [] 2 ∷ []); before = form t2 refl; after = form t1 refl };
-        witnessed = stays Opaque (1 ∷ 1 ∷ 2 ∷ 0 ∷ []) (witness (fact 2 ∷ [])) meant.opaque (λ D form w s t l o. accepts-witness f tabled D form _ t l (fact 2 ∷ []) w s (witness-row D (fact 2 ∷ []) .0 o))
-            t3 t2 (grows false [] [] (entryOf (0 ∷ []) 2 ∷ [])) refl refl refl refl refl refl;
+        witnessed = stays (grows false [] [] (entryOf (0 ∷ []) 2 ∷ [])) (takes-two t3 refl refl refl) (takes-two t2 refl refl refl);
       }

@@ -2,11 +2,11 @@
 -- accepted for both. (T2 grows to T1, but T2 is opaque, so that no proof is accepted for it.)
 use Prim.Native.Nat.{ℕ}
 use mathlib.Core.Bool.{Bool, true, false}
-use mathlib.Core.List.{List, [], _∷_}
+use mathlib.Core.List.{List, [], _∷_, _++_}
 use mathlib.Core.Path.{_≡_}
 use Rattle.meaning.specs.Policy.{Clause, fact}
 use Rattle.meaning.specs.Papers.{Entry, Dossier, witness, proof}
-use Rattle.meaning.specs.Example.{entryOf, exampleWith, t1, t2, t3, p}
+use Rattle.meaning.specs.Example.{entryOf, exampleWith, t1, t2, t3, factTwo, p}
 use Rattle.promise.specs.Code.{codeDossier, codeCertificate}
 use Rattle.reply.specs.declared.Verdict.{Verdict}
 use Rattle.reply.specs.declared.Verdict.the-variants.{Opaque, Detectable}
@@ -17,7 +17,7 @@ use Rattle.judging.specs.Cases.{T1, T2, T3, P}
 
 -- T1 with this mark on its first clause, and more credentials and probes after its own
 abbrev pub t1With : Bool → List Clause → List Entry → Dossier
-t1With mark creds probes = exampleWith mark creds (entryOf (0 ∷ []) 2 ∷ entryOf [] 2 ∷ probes)
+t1With mark creds probes = exampleWith mark creds (t1 .probes ++ probes)
 
 -- D grows to E, and the certificate's words c are accepted for both, with every table that is long enough
 pub record Stays (f : Judging) (v : Verdict) (c : List ℕ) (D E : Dossier) : Type 0 where
@@ -28,7 +28,7 @@ pub record Stays (f : Judging) (v : Verdict) (c : List ℕ) (D E : Dossier) : Ty
 pub record NotEmpty (f : Judging) : Type 0 where
   pub words : (codeDossier t1 ≡ T1) × (codeDossier t2 ≡ T2) × (codeDossier t3 ≡ T3)
   pub proofWords : codeCertificate (proof p) ≡ P
-  pub witnessWords : codeCertificate (witness (fact 2 ∷ [])) ≡ 1 ∷ 1 ∷ 2 ∷ 0 ∷ []
+  pub witnessWords : codeCertificate (witness factTwo) ≡ 1 ∷ 1 ∷ 2 ∷ 0 ∷ []
   -- a third probe, 1 without credentials; the hidden clause marked visible; a second credential, the fact 2
   pub probe : Stays f Detectable P t1 (t1With false [] (entryOf [] 1 ∷ []))
   pub mark : Stays f Detectable P t1 (t1With true [] [])

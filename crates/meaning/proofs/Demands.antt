@@ -1,6 +1,5 @@
 -- The theorems of specs/Demands.antt, each under its name in small letters.
 use mathlib.Core.Path.{_≡_, refl, sym, ap, _∙_}
-use mathlib.Core.Bool.{Bool·not-not}
 use mathlib.Core.List.{List, _∷_, List·Memᴰ·head, List·Memᴰ·tail, Memᴰ·append-left}
 use Prim.Native.Nat.{suc}
 use native.Mathlib.Omega.{arith}
@@ -11,10 +10,10 @@ use Rattle.meaning.specs.Looks.{aim, Detectable, Opaque}
 use Rattle.meaning.specs.Verdict.{opaque, detectable, tried, WitnessAccepted, ProofAccepted}
 use Rattle.meaning.specs.Extends.{Extends, WellNamed}
 use Rattle.meaning.specs.Demands.{HoldsTested, HoldsDerived, RoundsEnough, FirstRounds, TruthTested, LooksLikeItself, AimMeant, DetectableTested, OpaqueTested, PolicyIsSet, LineSound, NotBoth, When, WitnessShows, Demand2, ExtensionKeeps, Demand3}
-use Rattle.meaning.proofs.Tests.{not-self, not-opposite}
+use Rattle.meaning.proofs.Tests.{not-opposite}
 use Rattle.meaning.proofs.Rounds.{holds-tested, holds-derived, rounds-holds}
 use Rattle.meaning.proofs.First.{first-rounds}
-use Rattle.meaning.proofs.Truth.{truth-tested, value-tested, alike-tested}
+use Rattle.meaning.proofs.Truth.{truth-tested, value-tested, alike-tested, unlike-tested}
 use Rattle.meaning.proofs.Sound.{line-sound, none-denies}
 use Rattle.meaning.proofs.Sets.{rounds-same, holding-same, first-same-set, answers-same}
 use Rattle.meaning.proofs.Verdict.{own-visible, tried-visible, judge-exactly}
@@ -55,8 +54,8 @@ detectableTested D = (
 pub opaqueTested : OpaqueTested
 unfolding Opaque aim
 opaqueTested D = (
-  λ o. (o .0, o .1, not-opposite _ _ λ e. o .2 (alike-tested D (policy D) (o .0) (D .secret) .1 (e ∙ Bool·not-not (aim D)))),
-  λ o. (o .0, o .1, λ y. not-self (aim D) (sym (alike-tested D (policy D) (o .0) (D .secret) .0 y) ∙ o .2)),
+  λ o. (o .0, o .1, unlike-tested D (policy D) (o .0) (D .secret) .0 (o .2)),
+  λ o. (o .0, o .1, unlike-tested D (policy D) (o .0) (D .secret) .1 (o .2)),
 )
 
 pub notBoth : NotBoth

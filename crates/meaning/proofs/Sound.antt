@@ -1,6 +1,6 @@
 -- Each rule is sound: a line that follows has a true literal in every policy that looks the same and denies what a proof shows.
 use mathlib.Core.Path.{_≡_, refl, sym, ap, _∙_, subst}
-use mathlib.Core.Bool.{Bool, true, false, not, false≢true, true≢false, Bool·not-not}
+use mathlib.Core.Bool.{Bool, true, false, not, false≢true, true≢false}
 use mathlib.Core.List.{List, [], _∷_, List·Memᴰ·head, List·Memᴰ·tail, List·Memᴰ·not-nil}
 use mathlib.Core.Option.{Option, none, some}
 use mathlib.Core.Logic.{_⊎_, inl, inr, ⊎-elim, _↔_}
@@ -18,7 +18,7 @@ use Rattle.meaning.specs.Verdict.{lastEmpty}
 use Rattle.meaning.specs.Demands.{LineSound}
 use Rattle.meaning.proofs.Tests.{clash, not-true, not-self, not-opposite, and-both, and-of, and-five, or-cases, agree→≡, agree-of, agree-not, is→≡, is-refl, same→≡, same-refl, all-at, any-at, any-of, none-at, keep-at, keep-of, map-of, named-at, named-is, at-mem, at-below, at-take, mem-at}
 use Rattle.meaning.proofs.Rounds.{ClosedIn, holds-closed, holds-least, holds-tested}
-use Rattle.meaning.proofs.Truth.{value-test, alike-tested, joined-policy, joined-cred, joined-fact, joined-closed}
+use Rattle.meaning.proofs.Truth.{value-test, unlike-tested, joined-policy, joined-cred, joined-fact, joined-closed}
 
 -- ---- what is given
 
@@ -268,11 +268,15 @@ module _ (D : Dossier) (Q : Policy) (looks : LookTheSame D (policy D) Q) (denies
   shows i {m} e v = looks .second (m .clause) (map-of (λ (x : Marked). x .clause) (keep-of (λ (x : Marked). x .visible) (at-mem _ i e) v))
 
   module _ (before : List Line) (ls : List Literal) where
-    refute : (r : Rule) → ((u v i j : ℕ) → r ≡ Rule.resolve u v i j → (m : Line) → (at before u ≡ some m) ⊎ (at before v ≡ some m) → True m) → follows D before ls r ≡ true → any (trueIn (D .creds) Q) ls ≡ false → ⊥
+    -- the lines that a rule cites are true
+    abbrev Cited : Rule → Type 0
+    Cited r = (u v i j : ℕ) → r ≡ Rule.resolve u v i j → (m : Line) → (at before u ≡ some m) ⊎ (at before v ≡ some m) → True m
+
+    refute : (r : Rule) → Cited r → follows D before ls r ≡ true → any (trueIn (D .creds) Q) ls ≡ false → ⊥
     unfolding follows answer True
     refute (Rule.probe k) cited h f =
         let (e, ee, v) = named-at _ _ h in
-        not-self (answer D (policy D) e) (sym (alike-tested D (policy D) Q e .0 (looks .alike e (at-mem _ _ ee))) ∙ value-fits (D .creds) Q ls f (e .creds) (e .formula) (not (answer D (policy D) e)) (gives→≡ _ _ v))
+        unlike-tested D (policy D) Q e .1 (value-fits (D .creds) Q ls f (e .creds) (e .formula) (not (answer D (policy D) e)) (gives→≡ _ _ v)) (looks .alike e (at-mem _ _ ee))
     refute Rule.secret cited h f =
         not-self (aim D) (sym (value-fits (D .creds) Q ls f (D .secret .creds) (D .secret .formula) (aim D) (gives→≡ _ _ h)) ∙ denies)
     refute (Rule.clause i j) cited h f =
@@ -312,7 +316,7 @@ module _ (D : Dossier) (Q : Policy) (looks : LookTheSame D (policy D) Q) (denies
         (pivot-true (D .creds) Q ls f (a .literals) i (cited u v i j refl a (inl ea)) ep inA plus)
         (ap (says (D .creds) Q) (sameStatement→≡ one) ∙ pivot-true (D .creds) Q ls f (b .literals) j (cited u v i j refl b (inr eb)) eq inB (not-true _ minus))
 
-    rule-sound : (r : Rule) → ((u v i j : ℕ) → r ≡ Rule.resolve u v i j → (m : Line) → (at before u ≡ some m) ⊎ (at before v ≡ some m) → True m) → follows D before ls r ≡ true → any (trueIn (D .creds) Q) ls ≡ true
+    rule-sound : (r : Rule) → Cited r → follows D before ls r ≡ true → any (trueIn (D .creds) Q) ls ≡ true
     rule-sound r cited h = not-opposite _ true (refute r cited h)
 
   -- ---- so an accepted proof leaves no such policy
@@ -344,5 +348,4 @@ module _ (D : Dossier) (Q : Policy) (looks : LookTheSame D (policy D) Q) (denies
 pub line-sound : LineSound
 unfolding aim True
 line-sound D Q looks other before l cited h =
-    let denies : answer D Q (D .secret) ≡ not (aim D) = not-opposite _ _ λ e. other (alike-tested D (policy D) Q (D .secret) .1 (e ∙ Bool·not-not (aim D))) in
-    true-tested D Q l .1 (rule-sound D Q looks denies before (l .literals) (l .rule) (λ u v i j e m o. true-tested D Q m .0 (cited u v i j e m o)) h)
+    true-tested D Q l .1 (rule-sound D Q looks (unlike-tested D (policy D) Q (D .secret) .0 other) before (l .literals) (l .rule) (λ u v i j e m o. true-tested D Q m .0 (cited u v i j e m o)) h)

@@ -1,6 +1,6 @@
 -- The test of a formula's truth is right; an answer is its Bool; what the joined policy has.
 use mathlib.Core.Path.{_≡_, refl, sym, ap, _∙_, subst}
-use mathlib.Core.Bool.{Bool, true, false, not, false≢true}
+use mathlib.Core.Bool.{Bool, true, false, not, false≢true, Bool·not-not}
 use mathlib.Core.List.{List, [], _∷_, _++_, map, List·Memᴰ·head, List·Memᴰ·tail, List·Memᴰ·not-nil, List·Memᴰ·append-cases, Memᴰ·append-left, Memᴰ·append-right}
 use mathlib.Core.Option.{Option, none, some}
 use mathlib.Core.Logic.{_⊎_, inl, inr, _↔_}
@@ -10,7 +10,7 @@ use Rattle.meaning.specs.Policy.{Clause, Policy, fact}
 use Rattle.meaning.specs.Formula.{Formula, always, atom, neg, conj, disj, read, pick, chosen, joined, Given, given, Truth, truth}
 use Rattle.meaning.specs.Papers.{Entry, Dossier, Yes, answer}
 use Rattle.meaning.specs.Looks.{Value}
-use Rattle.meaning.proofs.Tests.{clash, together, and-both, and-of, or-cases, or-left, or-right, map-of, map-at}
+use Rattle.meaning.proofs.Tests.{clash, not-self, not-opposite, together, and-both, and-of, or-cases, or-left, or-right, map-of, map-at}
 use Rattle.meaning.proofs.Rounds.{ClosedIn, holds-tested}
 
 -- ---- the test of truth
@@ -65,6 +65,12 @@ module _ (D : Dossier) where
   alike-tested P Q e = (
     λ h. together (λ z. yes-tested P e .0 (h .1 (yes-tested Q e .1 z))) (λ z. yes-tested Q e .0 (h .0 (yes-tested P e .1 z))),
     λ h. (λ y. yes-tested Q e .1 (h ∙ yes-tested P e .0 y), λ y. yes-tested P e .1 (sym h ∙ yes-tested Q e .0 y)),
+  )
+
+  pub unlike-tested : (P Q : Policy) (e : Entry) → ((Yes D P e ↔ Yes D Q e) → ⊥) ↔ (answer D Q e ≡ not (answer D P e))
+  unlike-tested P Q e = (
+    λ f. not-opposite _ _ λ h. f (alike-tested P Q e .1 (h ∙ Bool·not-not (answer D P e))),
+    λ h y. not-self (answer D P e) (sym (alike-tested P Q e .0 y) ∙ h),
   )
 
 -- ---- the joined policy

@@ -1,6 +1,6 @@
 -- Demand 2: each outcome is given exactly when the table says so.
 use mathlib.Core.Path.{_≡_, refl, sym, _∙_}
-use mathlib.Core.Bool.{Bool, true, false, not, Bool·not-not}
+use mathlib.Core.Bool.{Bool, true, false, not}
 use mathlib.Core.List.{List, Memᴰ·append-right}
 use mathlib.Core.Option.{Option, none, some}
 use mathlib.Core.Logic.{_↔_}
@@ -14,8 +14,8 @@ use Rattle.meaning.specs.Looks.{Has, Alike, LookTheSame, aim}
 use Rattle.meaning.specs.Rules.{lineFollows}
 use Rattle.meaning.specs.Verdict.{Outcome, opaque, detectable, probeDiffers, secretKept, lineFails, lastNotEmpty, tried, probeAgrees, lastEmpty, decide, judge}
 use Rattle.meaning.specs.Demands.{Lowest, Differs, Fails, When}
-use Rattle.meaning.proofs.Tests.{clash, not-self, not-opposite, agree→≡, agree-of, keep-at, map-of, map-at, named-is, at-mem, mem-index, at-below, below-at, Found, lowest-found, found-once}
-use Rattle.meaning.proofs.Truth.{alike-tested}
+use Rattle.meaning.proofs.Tests.{clash, not-opposite, agree→≡, agree-of, keep-at, map-of, map-at, named-is, at-mem, mem-index, at-below, below-at, Found, lowest-found, found-once}
+use Rattle.meaning.proofs.Truth.{alike-tested, unlike-tested}
 use Rattle.meaning.proofs.Sound.{has-own}
 
 -- ---- visible clauses
@@ -96,15 +96,15 @@ module _ (D : Dossier) (W : Policy) where
   hides-true : (hides ≡ true) ↔ (Alike D (D .secret) (policy D) (tried D W) → ⊥)
   unfolding aim
   hides-true = (
-    λ h y. not-self (aim D) (sym (alike-tested D (policy D) (tried D W) (D .secret) .0 y) ∙ agree→≡ h),
-    λ f. agree-of (not-opposite _ _ λ e. f (alike-tested D (policy D) (tried D W) (D .secret) .1 (e ∙ Bool·not-not (aim D)))),
+    λ h. unlike-tested D (policy D) (tried D W) (D .secret) .1 (agree→≡ h),
+    λ f. agree-of (unlike-tested D (policy D) (tried D W) (D .secret) .0 f),
   )
 
   hides-false : (hides ≡ false) ↔ Alike D (D .secret) (policy D) (tried D W)
   unfolding aim
   hides-false = (
     λ h. alike-tested D (policy D) (tried D W) (D .secret) .1 (not-opposite _ (aim D) (λ e. clash (agree-of e) h)),
-    λ y. not-opposite hides false (λ t. not-self (aim D) (sym (alike-tested D (policy D) (tried D W) (D .secret) .0 y) ∙ agree→≡ t)),
+    λ y. not-opposite hides false (λ t. hides-true .0 t y),
   )
 
 -- ---- lines

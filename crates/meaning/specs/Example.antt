@@ -1,8 +1,8 @@
--- 01's "Dossiers to try", decoded: T1 to T3, and the proof P. (Judging's `NotEmpty` says that their words are those of 01.)
+-- 01's "Dossiers to try", decoded: T1 to T3, the proof P and a witness. (Judging's `NotEmpty` says that their words are those of 01.)
 use mathlib.Core.Bool.{Bool, true, false}
 use mathlib.Core.List.{List, [], _∷_}
 use Prim.Native.Nat.{ℕ}
-use Rattle.meaning.specs.Policy.{Clause, fact}
+use Rattle.meaning.specs.Policy.{Clause, Policy, fact}
 use Rattle.meaning.specs.Formula.{atom}
 use Rattle.meaning.specs.Papers.{Entry, Dossier, Literal, Rule, Line}
 
@@ -38,6 +38,10 @@ literal s S a = record { positive = s; said = record { creds = S; atoms = []; at
 
 unfoldable pub line : Rule → List Literal → Line
 line r ls = record { rule = r; literals = ls }
+
+-- the witness of (d) and (e): the fact 2
+unfoldable pub factTwo : Policy
+factTwo = fact 2 ∷ []
 
 -- P, which shows T1 detectable
 unfoldable pub p : List Line

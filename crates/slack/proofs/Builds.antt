@@ -1,22 +1,18 @@
 -- The theorem of specs/Builds.antt: `emptyBuilds`.
 use Prim.Native.Nat.{ℕ, zero, suc, _≤_}
 use mathlib.Core.Path.{_≡_, refl, sym, ap, ap₂, _∙_}
-use mathlib.Core.Bool.{not}
 use mathlib.Core.List.{List, [], _∷_, List·Memᴰ·head, List·Memᴰ·tail, List·Memᴰ·not-nil}
 use native.Mathlib.Omega.{arith}
 use lib.ListN.{length, getD, replicate}
 use Rattle.words.specs.Out.{got}
-use Rattle.meaning.specs.Policy.{Policy, fact}
-use Rattle.meaning.specs.Papers.{Dossier, policy, visible, answer, Certificate, witness, proof}
-use Rattle.meaning.specs.Looks.{Alike, aim}
+use Rattle.meaning.specs.Papers.{Dossier, policy, visible, Certificate, witness, proof}
 use Rattle.meaning.specs.Verdict.{Outcome, opaque, detectable, probeDiffers, lineFails, tried, judge}
 use Rattle.meaning.specs.Demands.{When}
 use Rattle.meaning.proofs.Demands as shown
 use Rattle.meaning.proofs.Demands.{notBoth, witnessShows}
-use Rattle.meaning.specs.Example.{t1, t2, p}
+use Rattle.meaning.specs.Example.{t1, t2, factTwo, p}
 use Rattle.meaning.proofs.Example.{witness-example}
-use Rattle.meaning.proofs.Tests.{not-self}
-use Rattle.meaning.proofs.Truth.{alike-tested}
+use Rattle.meaning.proofs.Truth.{alike-tested, unlike-tested}
 use Rattle.promise.specs.Code.{codeCertificate}
 use Rattle.dossier.specs.Read.{dossier}
 use Rattle.dossier.proofs.Promise.{dossierSound}
@@ -58,20 +54,17 @@ decoded d c D C {k} {j} e f =
     let b = certificateSound (length (D .labels)) (length (D .creds)) c C j f in
     record { dossierWords = a .0; certificateWords = b .0; form = a .1; sound = b .1 }
 
-two : Policy
-two = fact 2 ∷ []
-
-t1-two : Both T1 (1 ∷ 1 ∷ 2 ∷ 0 ∷ []) t1 (witness two)
-unfolding compute two
-t1-two = decoded T1 _ t1 (witness two) refl refl
+t1-two : Both T1 (1 ∷ 1 ∷ 2 ∷ 0 ∷ []) t1 (witness factTwo)
+unfolding compute
+t1-two = decoded T1 _ t1 (witness factTwo) refl refl
 
 t1-none : Both T1 (1 ∷ 0 ∷ []) t1 (witness [])
 unfolding compute
 t1-none = decoded T1 _ t1 (witness []) refl refl
 
-t2-two : Both T2 (1 ∷ 1 ∷ 2 ∷ 0 ∷ []) t2 (witness two)
-unfolding compute two
-t2-two = decoded T2 _ t2 (witness two) refl refl
+t2-two : Both T2 (1 ∷ 1 ∷ 2 ∷ 0 ∷ []) t2 (witness factTwo)
+unfolding compute
+t2-two = decoded T2 _ t2 (witness factTwo) refl refl
 
 t2-p : Both T2 P t2 (proof p)
 unfolding compute
@@ -88,10 +81,6 @@ unfolding compute
 none-differs e (List·Memᴰ·head h) = alike-tested t1 (visible t1) (tried t1 []) e .1 (rw h refl)
 none-differs e (List·Memᴰ·tail (List·Memᴰ·head h)) = alike-tested t1 (visible t1) (tried t1 []) e .1 (rw h refl)
 none-differs e (List·Memᴰ·tail (List·Memᴰ·tail m)) = absurd (List·Memᴰ·not-nil m)
-
-other : (D : Dossier) (W : Policy) → answer D (tried D W) (D .secret) ≡ not (aim D) → Alike D (D .secret) (policy D) (tried D W) → ⊥
-unfolding aim
-other D W h y = not-self (aim D) (sym (alike-tested D (policy D) (tried D W) (D .secret) .0 y) ∙ h)
 
 -- ---- kinds of replies
 
@@ -123,17 +112,13 @@ module _ (f : Judging) where
     detectable-said h = let (ls, e, s) = demand D C (w .form) (w .sound) t long .1 .0 h in rw e (shown.demand2 D (proof ls) detectable .1 s)
 
 -- what the papers' outcomes are
-t1-two-is : judge t1 (witness two) ≡ probeDiffers 1
-unfolding compute two
+t1-two-is : judge t1 (witness factTwo) ≡ probeDiffers 1
+unfolding compute
 t1-two-is = refl
 
 t1-none-is : judge t1 (witness []) ≡ probeDiffers 0
 unfolding compute
 t1-none-is = refl
-
-t2-two-is : judge t2 (witness two) ≡ opaque
-unfolding compute two
-t2-two-is = refl
 
 t2-p-is : judge t2 (proof p) ≡ lineFails 1
 unfolding compute
@@ -160,24 +145,24 @@ ones (suc (suc zero)) = omega arith
 ones (suc (suc (suc a))) = omega arith
 
 pub emptyBuilds : EmptyBuilds
-unfolding kindOf kind countIn which two lent compute Meets When
+unfolding kindOf kind countIn which lent compute Meets When
 emptyBuilds f g =
     record {
       refusesAll = λ h. (
         λ demand.
             let (e, q, a, n, r) = h T2 (1 ∷ 1 ∷ 2 ∷ 0 ∷ []) lent in
-            let ok = demand t2 (witness two) (t2-two .form) (t2-two .sound) lent (omega arith) .0 .1 (two, refl, shown.demand2 t2 (witness two) opaque .0 t2-two-is) in
+            let ok = demand t2 (witness factTwo) (t2-two .form) (t2-two .sound) lent (omega arith) .0 .1 (factTwo, refl, shown.demand2 t2 (witness factTwo) opaque .0 witness-example) in
             let z : _≡_ {A = ℕ} 2 0 = ap kindOf (sym r ∙ said f t2-two Opaque lent ok) in omega arith,
         λ m. let (e, q, a, n, r) = h T1 P lent in let z : _≡_ {A = ℕ} 2 1 = ap kindOf (sym r ∙ m lent refl) in omega arith,
         λ m. let (e, q, a, n, r) = h T2 (1 ∷ 1 ∷ 2 ∷ 0 ∷ []) lent in let z : _≡_ {A = ℕ} 2 0 = ap kindOf (sym r ∙ m lent refl) in omega arith,
       );
       alwaysDetectable = λ h. (
-        λ demand. let z : _≡_ {A = ℕ} 0 1 = ap which (sym t2-two-is ∙ detectable-said f demand t2-two lent (omega arith) (h _ _ _)) in omega arith,
-        λ demand. notBoth t2 (demand .every t2 (t2-two .form) [] [] (h _ _ _)) (witnessShows t2 two witness-example),
+        λ demand. let z : _≡_ {A = ℕ} 0 1 = ap which (sym witness-example ∙ detectable-said f demand t2-two lent (omega arith) (h _ _ _)) in omega arith,
+        λ demand. notBoth t2 (demand .every t2 (t2-two .form) [] [] (h _ _ _)) (witnessShows t2 factTwo witness-example),
         λ m. let z : _≡_ {A = ℕ} 1 0 = ap kindOf (sym (h T2 (1 ∷ 1 ∷ 2 ∷ 0 ∷ []) lent) ∙ m lent refl) in omega arith,
       );
       firstProbe = λ h.
-          let ok = h t1 two (t1-two .form) (t1-two .sound) refl (other t1 two refl) lent (omega arith) in (
+          let ok = h t1 factTwo (t1-two .form) (t1-two .sound) refl (unlike-tested t1 (policy t1) (tried t1 factTwo) (t1 .secret) .1 refl) lent (omega arith) in (
             λ demand. let z : _≡_ {A = ℕ} 2 0 = ap which (sym t1-two-is ∙ opaque-said f demand t1-two lent (omega arith) ok) in omega arith,
             λ m. let z : _≡_ {A = ℕ} 0 2 = ap kindOf (sym (said f t1-two Opaque lent ok) ∙ m lent refl) in omega arith,
           );
@@ -187,7 +172,7 @@ emptyBuilds f g =
             λ m. let z : _≡_ {A = ℕ} 1 2 = ap kindOf (sym (said f t2-p Detectable lent ok) ∙ m lent refl) in omega arith,
           );
       earlierSave = λ h.
-          let ok = h t1 [] (t1-none .form) (t1-none .sound) none-differs (other t1 [] refl) lent (omega arith) in (
+          let ok = h t1 [] (t1-none .form) (t1-none .sound) none-differs (unlike-tested t1 (policy t1) (tried t1 []) (t1 .secret) .1 refl) lent (omega arith) in (
             λ demand. let z : _≡_ {A = ℕ} 2 0 = ap which (sym t1-none-is ∙ opaque-said f demand t1-none lent (omega arith) ok) in omega arith,
             λ m. let z : _≡_ {A = ℕ} 0 2 = ap kindOf (sym (said f t1-none Opaque lent ok) ∙ m lent refl) in omega arith,
           );
