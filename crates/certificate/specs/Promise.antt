@@ -3,22 +3,22 @@ use Rattle.std.specs.Prelude.{ℕ, ◌≤◌, ◌≡◌, List, length}
 use Rattle.words.specs.Out.{got, bad}
 use Rattle.meaning.specs.Policy.{Policy}
 use Rattle.meaning.specs.Papers.{Certificate, witness}
-use Rattle.promise.specs.Code.{codeCertificate}
+use Rattle.promise.specs.Code.{code_certificate}
 use Rattle.promise.specs.Form.{CertificateForm}
 use Rattle.promise.specs.Table.{CertificateRow}
 use Rattle.certificate.specs.Read.{certificate}
 
 -- What is accepted is the code of a well-formed certificate, to the last word (of which there are at most 24,000: `CertificateForm`).
 abbrev pub CertificateSound : Type 0
-CertificateSound = (n m : ℕ) (ws : List ℕ) (C : Certificate) (p : ℕ) → certificate n m ws ≡ got C p → (ws ≡ codeCertificate C) × CertificateForm n m C
+CertificateSound = (n m : ℕ) (ws : List ℕ) (C : Certificate) (p : ℕ) → certificate n m ws ≡ got C p → (ws ≡ code_certificate C) × CertificateForm n m C
 
 -- Every well-formed certificate's code is accepted, with that value.
 abbrev pub CertificateAccepted : Type 0
-CertificateAccepted = (n m : ℕ) (C : Certificate) → CertificateForm n m C → certificate n m (codeCertificate C) ≡ got C (length (codeCertificate C))
+CertificateAccepted = (n m : ℕ) (C : Certificate) → CertificateForm n m C → certificate n m (code_certificate C) ≡ got C (length (code_certificate C))
 
 -- Two well-formed certificates never have the same words.
 abbrev pub CertificateOnce : Type 0
-CertificateOnce = (n m : ℕ) (C E : Certificate) → CertificateForm n m C → CertificateForm n m E → codeCertificate C ≡ codeCertificate E → C ≡ E
+CertificateOnce = (n m : ℕ) (C E : Certificate) → CertificateForm n m C → CertificateForm n m E → code_certificate C ≡ code_certificate E → C ≡ E
 
 -- A certificate that is well formed with m credentials is so with more; a witness with any number.
 abbrev pub CertificateMore : Type 0

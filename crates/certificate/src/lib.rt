@@ -3,12 +3,12 @@ ghost use Rattle.std.specs.Prelude.{◌≡◌, ◌+◌, ◌≤◌, length};
 ghost use mathlib.Core.List as list;
 ghost use Rattle.words.specs.Out.{word, after};
 ghost use Rattle.words.specs.Read.{times, section};
-ghost use Rattle.words.specs.Answer.{asStep};
+ghost use Rattle.words.specs.Answer.{as_step};
 ghost use Rattle.promise.specs.Place.{many, Fit};
 ghost use Rattle.promise.specs.Line as seen;
-ghost use Rattle.dossier.specs.Found.{asSection};
+ghost use Rattle.dossier.specs.Found.{as_section};
 ghost use Rattle.certificate.specs.Read as read;
-ghost use Rattle.certificate.specs.Found.{asForm};
+ghost use Rattle.certificate.specs.Found.{as_form};
 
 use dossier::{Item, Section};
 use promise::{LiteralAt, Proposal};
@@ -23,7 +23,7 @@ pub enum Form {
 
 // A statement: credentials, atoms, one atom.
 fn statement_at(s: &[u16], at: usize, n: usize, m: usize) -> Step
-    ensures { result ≡ asStep (read.statement n m s.now at) }
+    ensures { result ≡ as_step (read.statement n m s.now at) }
 {
     match words::list_at(s, at, 0, 33, Range::Below(m, 6)) {
         Step::Refused(e, x, w) => Step::Refused(e, x, w),
@@ -39,7 +39,7 @@ fn statement_at(s: &[u16], at: usize, n: usize, m: usize) -> Step
 
 // A literal: its sign, and the statement that it speaks of.
 fn literal_at(s: &[u16], at: usize, n: usize, m: usize) -> Step
-    ensures { result ≡ asStep (read.literal n m s.now at) }
+    ensures { result ≡ as_step (read.literal n m s.now at) }
 {
     match words::word_in(s, at, 0, 2, 5) {
         Got::Stop(e, x, w) => Step::Refused(e, x, w),
@@ -49,8 +49,8 @@ fn literal_at(s: &[u16], at: usize, n: usize, m: usize) -> Step
 
 // Whether one of the count literals from `first` on speaks of the statement that the literal at p speaks of.
 fn spoken_at(s: &[u16], first: usize, count: usize, p: usize) -> bool
-    requires { Fit seen.literal s.now first count × ((seen.literalAt s.now p).next ≤ length s.now) }
-    ensures { result ≡ read.spoken (seen.said_of s.now (seen.literalAt s.now p)) (many seen.literal s.now first count) }
+    requires { Fit seen.literal s.now first count × ((seen.literal_at s.now p).next ≤ length s.now) }
+    ensures { result ≡ read.spoken (seen.said_of s.now (seen.literal_at s.now p)) (many seen.literal s.now first count) }
 {
     let l = promise::literal_at(s, p);
     let mut unseen = count;
@@ -69,7 +69,7 @@ fn spoken_at(s: &[u16], first: usize, count: usize, p: usize) -> bool
 // The literal at p, after `done` literals from `at` on; it speaks of no statement that one of those speaks of.
 fn next_literal(s: &[u16], at: usize, done: usize, p: usize, n: usize, m: usize) -> Step
     requires { Fit seen.literal s.now at done }
-    ensures { result ≡ asStep (read.literals n m 1 (many seen.literal s.now at done) s.now p) }
+    ensures { result ≡ as_step (read.literals n m 1 (many seen.literal s.now at done) s.now p) }
 {
     match literal_at(s, p, n, m) {
         Step::Refused(e, x, w) => Step::Refused(e, x, w),
@@ -85,7 +85,7 @@ fn next_literal(s: &[u16], at: usize, done: usize, p: usize, n: usize, m: usize)
 
 // k literals; none speaks of a statement that one before it speaks of.
 fn literals_at(s: &[u16], at: usize, k: usize, n: usize, m: usize) -> Step
-    ensures { result ≡ asStep (read.literals n m k list.[] s.now at) }
+    ensures { result ≡ as_step (read.literals n m k list.[] s.now at) }
 {
     let mut done = 0;
     let mut p = at;
@@ -106,7 +106,7 @@ fn literals_at(s: &[u16], at: usize, k: usize, n: usize, m: usize) -> Step
 // k words from `at` on, of which only the presence is tested.
 fn data_at(s: &[u16], at: usize, k: usize) -> Step
     requires { at ≤ length s.now }
-    ensures { result ≡ asStep (times k word s.now at) }
+    ensures { result ≡ as_step (times k word s.now at) }
 {
     if s.len() - at < k {
         return Step::Refused(1, s.len(), 0);
@@ -116,7 +116,7 @@ fn data_at(s: &[u16], at: usize, k: usize) -> Step
 
 // A line: its rule, the rule's data words, literal count, literals.
 fn line_at(s: &[u16], at: usize, n: usize, m: usize) -> Step
-    ensures { result ≡ asStep (read.line n m s.now at) }
+    ensures { result ≡ as_step (read.line n m s.now at) }
 {
     match words::word_in(s, at, 1, 9, 12) {
         Got::Stop(e, x, w) => Step::Refused(e, x, w),
@@ -132,7 +132,7 @@ fn line_at(s: &[u16], at: usize, n: usize, m: usize) -> Step
 
 // k lines, one after the other.
 fn lines_from(s: &[u16], at: usize, k: usize, n: usize, m: usize) -> Step
-    ensures { result ≡ asStep (times k (read.line n m) s.now at) }
+    ensures { result ≡ as_step (times k (read.line n m) s.now at) }
 {
     let mut left = k;
     let mut p = at;
@@ -152,7 +152,7 @@ fn lines_from(s: &[u16], at: usize, k: usize, n: usize, m: usize) -> Step
 
 // A section of lines that begins where these words do: a count from 1 to 1,024, and so many lines.
 fn lines_of(s: &[u16], n: usize, m: usize) -> Section
-    ensures { result ≡ asSection (section 1 1025 (read.line n m) s.now 0) }
+    ensures { result ≡ as_section (section 1 1025 (read.line n m) s.now 0) }
 {
     match words::word_in(s, 0, 1, 1025, 2) {
         Got::Stop(e, x, w) => Section::Refused(e, x, w),
@@ -166,7 +166,7 @@ fn lines_of(s: &[u16], n: usize, m: usize) -> Section
 // The section of lines that begins at p: it is read as the part from there on.
 fn lines_after(s: &[u16], p: usize, n: usize, m: usize) -> Section
     requires { p ≤ length s.now }
-    ensures { result ≡ asSection (after (section 1 1025 (read.line n m)) s.now p) }
+    ensures { result ≡ as_section (after (section 1 1025 (read.line n m)) s.now p) }
 {
     match lines_of(&s[p..], n, m) {
         Section::Refused(e, q, w) => Section::Refused(e, p + q, w),
@@ -177,7 +177,7 @@ fn lines_after(s: &[u16], p: usize, n: usize, m: usize) -> Section
 // A witness, whose clauses' section begins at p, and no word after them.
 fn witness_after(s: &[u16], p: usize, n: usize) -> Form
     requires { p ≤ length s.now }
-    ensures { result ≡ asForm (read.witnessFrom n s.now p) }
+    ensures { result ≡ as_form (read.witness_from n s.now p) }
 {
     match dossier::section_after(s, p, 0, 129, Item::Credential, n, 0) {
         Section::Refused(e, x, w) => Form::Refused(e, x, w),
@@ -193,7 +193,7 @@ fn witness_after(s: &[u16], p: usize, n: usize) -> Form
 // A proof, whose lines' section begins at p, and no word after them.
 fn proof_after(s: &[u16], p: usize, n: usize, m: usize) -> Form
     requires { p ≤ length s.now }
-    ensures { result ≡ asForm (read.proofFrom n m s.now p) }
+    ensures { result ≡ as_form (read.proof_from n m s.now p) }
 {
     match lines_after(s, p, n, m) {
         Section::Refused(e, x, w) => Form::Refused(e, x, w),
@@ -208,7 +208,7 @@ fn proof_after(s: &[u16], p: usize, n: usize, m: usize) -> Form
 
 // The whole certificate; n is the number of atoms, m that of the credentials.
 pub fn certificate(words: &[u16], n: usize, m: usize) -> Form
-    ensures { result ≡ asForm (read.certificate n m words.now) }
+    ensures { result ≡ as_form (read.certificate n m words.now) }
 {
     if 24000 < words.len() {
         return Form::Refused(10, 0, 0);

@@ -6,17 +6,17 @@ use native.Mathlib.Omega.{arith}
 use Rattle.meaning.specs.Tests.{◌∈◌}
 use Rattle.meaning.specs.Formula.{read}
 use Rattle.meaning.specs.Looks.{Detectable}
-use Rattle.meaning.specs.Example.{clauseOf, entry_of, exampleWith, t1, p}
+use Rattle.meaning.specs.Example.{clause_of, entry_of, example_with, t1, p}
 use Rattle.meaning.proofs.Example.{compute}
 use Rattle.meaning.specs.Extends.{WellNamed}
 use Rattle.meaning.proofs.Demands.{demand3}
 use Rattle.completeness.specs.Form.{Pairwise, AtomsBelow, WellFormed}
 use Rattle.completeness.specs.Example.{T1Instance}
-use Rattle.completeness.proofs.Complete.{detectableExactly}
+use Rattle.completeness.proofs.Complete.{detectable_exactly}
 
-pub t1-detectable : Detectable t1
+pub t1_detectable : Detectable t1
 unfolding compute
-t1-detectable = demand3.every t1 p refl
+t1_detectable = demand3.every t1 p refl
 
 -- what is so of the elements of a short list
 pub none_of : {A : Type 0} (P : A → Type 0) (x : A) → x ∈ [] → P x
@@ -26,9 +26,9 @@ pub also : {A : Type 0} (P : A → Type 0) {a : A} {l : List A} → P a → ((x 
 also P p f x (Memᴰ.head e) = rw e p
 also P p f x (Memᴰ.tail m) = f x m
 
-pub t1-wellFormed : WellFormed t1
-unfolding t1 exampleWith clauseOf entry_of AtomsBelow read Pairwise WellNamed
-t1-wellFormed =
+pub t1_well_formed : WellFormed t1
+unfolding t1 example_with clause_of entry_of AtomsBelow read Pairwise WellNamed
+t1_well_formed =
     record {
       clauses = also _ (record { head = omega arith; body = none_of _ }) (also _ (record { head = omega arith; body = also _ (omega arith) (none_of _) }) (none_of _));
       creds = also _ (record { head = omega arith; body = also _ (omega arith) (none_of _) }) (none_of _);
@@ -37,5 +37,5 @@ t1-wellFormed =
       named = also _ (none_of _) (also _ (also _ (omega arith) (none_of _)) (also _ (none_of _) (none_of _)));
     }
 
-pub t1Instance : T1Instance
-t1Instance = (t1-wellFormed, (detectableExactly t1 t1-wellFormed).0 t1-detectable)
+pub t1_instance : T1Instance
+t1_instance = (t1_well_formed, (detectable_exactly t1 t1_well_formed).0 t1_detectable)

@@ -12,7 +12,7 @@ use Rattle.meaning.specs.Papers.{Entry, Marked, Dossier, Statement, Literal, Rul
 use Rattle.meaning.specs.Looks.{Detectable}
 use Rattle.meaning.specs.Rules.{supposed, and₃, ◌gives◌, follows}
 use Rattle.meaning.specs.Extends.{WellNamed}
-use Rattle.meaning.proofs.Tests.{and_both, named-at, at_mem, mem-at}
+use Rattle.meaning.proofs.Tests.{and_both, named_at_lem, at_mem, mem_at}
 use Rattle.meaning.proofs.Demands.{demand3}
 use Rattle.completeness.specs.Form.{Pairwise, Within, AtomsBelow, WellFormed}
 use Rattle.meaning.specs.Example.{entry_of, literal, line}
@@ -20,8 +20,8 @@ use Rattle.meaning.proofs.Example.{compute}
 use Rattle.completeness.proofs.Example.{none_of, also}
 
 -- Fact 0, visible if seen; hidden facts 1, 2 and 3; a credential for 1, and the secret with it.
-unfoldable pub sampleWith : Bool → List ℕ → List Entry → Formula → Dossier
-sampleWith seen body probes secret =
+unfoldable pub sample_with : Bool → List ℕ → List Entry → Formula → Dossier
+sample_with seen body probes secret =
     record {
       labels = 10 ∷ 20 ∷ 30 ∷ 40 ∷ [];
       clauses = marked seen 0 ∷ marked false 1 ∷ marked false 2 ∷ marked false 3 ∷ [];
@@ -42,12 +42,12 @@ unfoldable pub three : Formula
 three = conj (atom 2) (conj (atom 0) (atom 1))
 
 unfoldable pub sample : Dossier
-sample = sampleWith true [] probed three
+sample = sample_with true [] probed three
 
 -- all that a changed sample computes through
-unfoldable pub unfold-sample : Unit {0}
-unfolding compute sampleWith probed three sample
-unfold-sample = tt
+unfoldable pub unfold_sample : Unit {0}
+unfolding compute sample_with probed three sample
+unfold_sample = tt
 
 lines : List Line
 lines =
@@ -62,13 +62,13 @@ lines =
     ∷ line (Rule.resolve 4 7 0 0) []
     ∷ []
 
-pub sample-detectable : Detectable sample
-unfolding unfold-sample lines line literal
-sample-detectable = demand3.every sample lines refl
+pub sample_detectable : Detectable sample
+unfolding unfold_sample lines line literal
+sample_detectable = demand3.every sample lines refl
 
-pub sample-wellFormed : WellFormed sample
-unfolding unfold-sample AtomsBelow Pairwise WellNamed
-sample-wellFormed =
+pub sample_well_formed : WellFormed sample
+unfolding unfold_sample AtomsBelow Pairwise WellNamed
+sample_well_formed =
     record {
       clauses = also _ (within (omega arith)) (also _ (within (omega arith)) (also _ (within (omega arith)) (also _ (within (omega arith)) (none_of _))));
       creds = also _ (within (omega arith)) (none_of _);
@@ -86,14 +86,14 @@ sample-wellFormed =
 unfoldable pub two : List ℕ → Statement
 two S = record { creds = S; atoms = []; atom = 2 }
 
-pub sample-probe : (b : List Line) (ls : List Literal) (k : ℕ) → follows sample b ls (Rule.probe k) ≡ true → supposed ls (two []) gives false ≡ true
-unfolding unfold-sample two
-sample-probe b ls zero h = h
-sample-probe b ls (suc k) h = absurd (false≢true h)
+pub sample_probe : (b : List Line) (ls : List Literal) (k : ℕ) → follows sample b ls (Rule.probe k) ≡ true → supposed ls (two []) gives false ≡ true
+unfolding unfold_sample two
+sample_probe b ls zero h = h
+sample_probe b ls (suc k) h = absurd (false≢true h)
 
-pub sample-secret : (b : List Line) (ls : List Literal) → follows sample b ls Rule.secret ≡ true → supposed ls (two (0 ∷ [])) gives true ≡ true
-unfolding unfold-sample two
-sample-secret b ls h = first (supposed ls (two (0 ∷ []))) _ h
+pub sample_secret : (b : List Line) (ls : List Literal) → follows sample b ls Rule.secret ≡ true → supposed ls (two (0 ∷ [])) gives true ≡ true
+unfolding unfold_sample two
+sample_secret b ls h = first (supposed ls (two (0 ∷ []))) _ h
   where
     first : (o p : Option Bool) → and₃ o p gives true ≡ true → o gives true ≡ true
     first (some true) p h = refl
@@ -103,26 +103,26 @@ sample-secret b ls h = first (supposed ls (two (0 ∷ []))) _ h
     first none (some false) h = h
 
 -- no visible clause, and no credential, is on 2
-pub sample-clauses : (m : Marked) → m ∈ sample.clauses → m.visible ≡ true → not (m.clause.head is 2) ≡ true
-unfolding unfold-sample
-sample-clauses = also _ (λ _. refl) (also _ never (also _ never (also _ never (none_of _))))
+pub sample_clauses : (m : Marked) → m ∈ sample.clauses → m.visible ≡ true → not (m.clause.head is 2) ≡ true
+unfolding unfold_sample
+sample_clauses = also _ (λ _. refl) (also _ never (also _ never (also _ never (none_of _))))
   where
     never : {A : Type 0} → false ≡ true → A
     never z = absurd (false≢true z)
 
-pub sample-creds : (c : Clause) → c ∈ sample.creds → not (c.head is 2) ≡ true
-unfolding unfold-sample
-sample-creds = also _ refl (none_of _)
+pub sample_creds : (c : Clause) → c ∈ sample.creds → not (c.head is 2) ≡ true
+unfolding unfold_sample
+sample_creds = also _ refl (none_of _)
 
 -- rule 7 never follows: the credential has no body
-pub sample-without : (b : List Line) (ls : List Literal) (c i j k : ℕ) → follows sample b ls (Rule.without c i j k) ≡ true → ⊥
+pub sample_without : (b : List Line) (ls : List Literal) (c i j k : ℕ) → follows sample b ls (Rule.without c i j k) ≡ true → ⊥
 unfolding follows
-sample-without b ls c i j k h =
-    let (e, ee, g) = named-at _ _ h in
-    let (m, em, g₁) = named-at _ _ g in
-    let (l, el, g₂) = named-at _ _ g₁ in
-    let (x, ex, v) = named-at _ _ g₂ in
-    bodiless e (at_mem _ c ee) x.said.atom (mem-at (and_both v).1)
+sample_without b ls c i j k h =
+    let (e, ee, g) = named_at_lem _ _ h in
+    let (m, em, g₁) = named_at_lem _ _ g in
+    let (l, el, g₂) = named_at_lem _ _ g₁ in
+    let (x, ex, v) = named_at_lem _ _ g₂ in
+    bodiless e (at_mem _ c ee) x.said.atom (mem_at (and_both v).1)
   where
     bodiless : (d : Clause) → d ∈ sample.creds → (a : ℕ) → a ∈ d.body → ⊥
-    bodiless = unfold unfold-sample in also _ (none_of _) (none_of _)
+    bodiless = unfold unfold_sample in also _ (none_of _) (none_of _)

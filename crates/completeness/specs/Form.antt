@@ -50,13 +50,13 @@ pub record ClauseForm (D : Dossier) (c : Clause) : Type 0 where
 -- The form of a literal: "credential numbers rising, .. atoms rising, one atom".
 pub record StatementForm (D : Dossier) (s : Statement) : Type 0 where
   -- 4
-  pub credsRising : Rising s.creds
-  pub atomsRising : Rising s.atoms
+  pub creds_rising : Rising s.creds
+  pub atoms_rising : Rising s.atoms
   -- 6
-  pub credsBelow : (i : ℕ) → i ∈ s.creds → i < length D.creds
+  pub creds_below : (i : ℕ) → i ∈ s.creds → i < length D.creds
   -- 3
-  pub atomsBelow : (x : ℕ) → x ∈ s.atoms → x < size D
-  pub atomBelow : s.atom < size D
+  pub atoms_below : (x : ℕ) → x ∈ s.atoms → x < size D
+  pub atom_below : s.atom < size D
 
 pub record LineForm (D : Dossier) (l : Line) : Type 0 where
   pub each : (x : Literal) → x ∈ l.literals → StatementForm D x.said

@@ -9,75 +9,75 @@ use Rattle.words.specs.Out.{got, bad}
 use Rattle.meaning.specs.Tests.{◌is◌, choose}
 use Rattle.meaning.specs.Formula.{Formula}
 use Rattle.dossier.specs.Read.{operand, by_kind}
-use Rattle.words.specs.Answer.{asStep}
+use Rattle.words.specs.Answer.{as_step}
 use Rattle.words.specs.declared.Step.TheVariants.{Next, Refused}
-use Rattle.words.proofs.Steps.{step-made, step-bad}
+use Rattle.words.proofs.Steps.{step_made, step_bad}
 use Rattle.dossier.proofs.Formula.{Strange, high, unknown}
 
-not-zero : (d : ℕ) → (d ≡ 0 → ⊥) → d ≡ suc (d - 1)
-not-zero d h = omega arith
+not_zero : (d : ℕ) → (d ≡ 0 → ⊥) → d ≡ suc (d - 1)
+not_zero d h = omega arith
 
 module _ (n lp end d : ℕ) (ws : List ℕ) (at : ℕ) where
-  pub operand-deep : d ≡ 0 → operand n lp end d ws at ≡ bad 8 lp 1
+  pub operand_deep : d ≡ 0 → operand n lp end d ws at ≡ bad 8 lp 1
   unfolding operand
-  operand-deep h = rw h
+  operand_deep h = rw h
 
-  pub op-deep : d ≡ 0 → asStep (operand n lp end d ws at) ≡ Refused 8 lp 1
-  op-deep h = step-bad (operand-deep h)
+  pub op_deep : d ≡ 0 → as_step (operand n lp end d ws at) ≡ Refused 8 lp 1
+  op_deep h = step_bad (operand_deep h)
 
-  pub operand-past : end ≤ at → operand n lp end d ws at ≡ bad 8 lp 1
+  pub operand_past : end ≤ at → operand n lp end d ws at ≡ bad 8 lp 1
   unfolding operand
-  operand-past h = go d
+  operand_past h = go d
     where
       go : (j : ℕ) → operand n lp end j ws at ≡ bad 8 lp 1
       go zero = refl
       go (suc j) = simp (le-ltb _ _ h)
 
-  pub op-past : end ≤ at → asStep (operand n lp end d ws at) ≡ Refused 8 lp 1
-  op-past h = step-bad (operand-past h)
+  pub op_past : end ≤ at → as_step (operand n lp end d ws at) ≡ Refused 8 lp 1
+  op_past h = step_bad (operand_past h)
 
   module _ (deep : d ≡ 0 → ⊥) where
     module _ (within : at < end) where
-      pub op-step : operand n lp end d ws at ≡ by_kind n (get_or ws at 0) at (operand n lp end (d - 1) ws)
+      pub op_step : operand n lp end d ws at ≡ by_kind n (get_or ws at 0) at (operand n lp end (d - 1) ws)
       unfolding operand
-      op-step = on (d - 1) (not-zero d deep)
+      op_step = on (d - 1) (not_zero d deep)
         where
           on : (j : ℕ) → d ≡ suc j → operand n lp end d ws at ≡ by_kind n (get_or ws at 0) at (operand n lp end j ws)
           on j z = rw z (simp (lt-ltb _ _ within))
 
-      pub operand-strange : {x e : ℕ} → get_or ws at 0 ≡ x → Strange n x e → operand n lp end d ws at ≡ bad e at 1
+      pub operand_strange : {x e : ℕ} → get_or ws at 0 ≡ x → Strange n x e → operand n lp end d ws at ≡ bad e at 1
       unfolding by_kind choose ◌is◌
-      operand-strange w (high a b) = op-step ∙ simp (w, le-ltb _ _ a, lt-ltb _ _ b)
-      operand-strange {x = x} w (unknown a b) =
+      operand_strange w (high a b) = op_step ∙ simp (w, le-ltb _ _ a, lt-ltb _ _ b)
+      operand_strange {x = x} w (unknown a b) =
           let c : 256 ≤ x = omega arith in
           let f : x ≡ 256 → ⊥ = λ z. omega (arith, z) in
           let g : x ≡ 257 → ⊥ = λ z. omega (arith, z) in
-          op-step ∙ simp (w, le-ltb _ _ a, le-ltb _ _ c, ne_eqb _ _ f, ne_eqb _ _ g, lt-ltb _ _ b)
+          op_step ∙ simp (w, le-ltb _ _ a, le-ltb _ _ c, ne_eqb _ _ f, ne_eqb _ _ g, lt-ltb _ _ b)
 
-      pub op-strange : {e : ℕ} → Strange n (get_or ws at 0) e → asStep (operand n lp end d ws at) ≡ Refused e at 1
-      op-strange s = step-bad (operand-strange refl s)
+      pub op_strange : {e : ℕ} → Strange n (get_or ws at 0) e → as_step (operand n lp end d ws at) ≡ Refused e at 1
+      op_strange s = step_bad (operand_strange refl s)
 
-      pub op-atom : get_or ws at 0 < n → asStep (operand n lp end d ws at) ≡ Next (at + 1)
-      unfolding by_kind asStep choose ◌is◌
-      op-atom h = rw op-step (simp (lt-ltb _ _ h))
+      pub op_atom : get_or ws at 0 < n → as_step (operand n lp end d ws at) ≡ Next (at + 1)
+      unfolding by_kind as_step choose ◌is◌
+      op_atom h = rw op_step (simp (lt-ltb _ _ h))
 
       module _ (h₁ : n ≤ get_or ws at 0) where
         module _ (h₂ : 256 ≤ get_or ws at 0) where
-          pub op-true : get_or ws at 0 ≡ 256 → asStep (operand n lp end d ws at) ≡ Next (at + 1)
-          unfolding by_kind asStep choose ◌is◌
-          op-true h = rw op-step (simp (le-ltb _ _ h₁, le-ltb _ _ h₂, eq-eqb _ _ h))
+          pub op_true : get_or ws at 0 ≡ 256 → as_step (operand n lp end d ws at) ≡ Next (at + 1)
+          unfolding by_kind as_step choose ◌is◌
+          op_true h = rw op_step (simp (le-ltb _ _ h₁, le-ltb _ _ h₂, eq-eqb _ _ h))
 
           module _ (h₃ : get_or ws at 0 ≡ 256 → ⊥) where
-            pub op-not : get_or ws at 0 ≡ 257 → asStep (operand n lp end d ws at) ≡ asStep (operand n lp end (d - 1) ws (at + 1))
+            pub op_not : get_or ws at 0 ≡ 257 → as_step (operand n lp end d ws at) ≡ as_step (operand n lp end (d - 1) ws (at + 1))
             unfolding by_kind choose ◌is◌
-            op-not h = rw op-step (simp (le-ltb _ _ h₁, le-ltb _ _ h₂, ne_eqb _ _ h₃, eq-eqb _ _ h, step-made))
+            op_not h = rw op_step (simp (le-ltb _ _ h₁, le-ltb _ _ h₂, ne_eqb _ _ h₃, eq-eqb _ _ h, step_made))
 
             module _ (h₄ : get_or ws at 0 ≡ 257 → ⊥) where
               module _ (h₅ : get_or ws at 0 ≤ 259) where
-                pub op-bad : {e q w : ℕ} → operand n lp end (d - 1) ws (at + 1) ≡ bad e q w → asStep (operand n lp end d ws at) ≡ Refused e q w
-                unfolding by_kind asStep choose ◌is◌
-                op-bad h = rw op-step (simp (le-ltb _ _ h₁, le-ltb _ _ h₂, ne_eqb _ _ h₃, ne_eqb _ _ h₄, le-ltb _ _ h₅, h))
+                pub op_bad : {e q w : ℕ} → operand n lp end (d - 1) ws (at + 1) ≡ bad e q w → as_step (operand n lp end d ws at) ≡ Refused e q w
+                unfolding by_kind as_step choose ◌is◌
+                op_bad h = rw op_step (simp (le-ltb _ _ h₁, le-ltb _ _ h₂, ne_eqb _ _ h₃, ne_eqb _ _ h₄, le-ltb _ _ h₅, h))
 
-                pub op-both : {p : ℕ} → ((v : Formula) × (operand n lp end (d - 1) ws (at + 1) ≡ got v p)) → asStep (operand n lp end d ws at) ≡ asStep (operand n lp end (d - 1) ws p)
+                pub op_both : {p : ℕ} → ((v : Formula) × (operand n lp end (d - 1) ws (at + 1) ≡ got v p)) → as_step (operand n lp end d ws at) ≡ as_step (operand n lp end (d - 1) ws p)
                 unfolding by_kind choose ◌is◌
-                op-both h = rw op-step (simp (le-ltb _ _ h₁, le-ltb _ _ h₂, ne_eqb _ _ h₃, ne_eqb _ _ h₄, le-ltb _ _ h₅, h.1, step-made))
+                op_both h = rw op_step (simp (le-ltb _ _ h₁, le-ltb _ _ h₂, ne_eqb _ _ h₃, ne_eqb _ _ h₄, le-ltb _ _ h₅, h.1, step_made))

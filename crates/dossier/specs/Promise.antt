@@ -2,22 +2,22 @@
 use Rattle.std.specs.Prelude.{ℕ, ◌≤◌, ◌≡◌, List, length}
 use Rattle.words.specs.Out.{got, bad}
 use Rattle.meaning.specs.Papers.{Dossier}
-use Rattle.promise.specs.Code.{codeDossier}
+use Rattle.promise.specs.Code.{code_dossier}
 use Rattle.promise.specs.Form.{DossierForm}
 use Rattle.promise.specs.Table.{DossierRow}
 use Rattle.dossier.specs.Read.{dossier}
 
 -- What is accepted is the code of a well-formed dossier, to the last word.
 abbrev pub DossierSound : Type 0
-DossierSound = (ws : List ℕ) (D : Dossier) (p : ℕ) → dossier ws ≡ got D p → (ws ≡ codeDossier D) × DossierForm D
+DossierSound = (ws : List ℕ) (D : Dossier) (p : ℕ) → dossier ws ≡ got D p → (ws ≡ code_dossier D) × DossierForm D
 
 -- Every well-formed dossier's code is accepted, with that value.
 abbrev pub DossierAccepted : Type 0
-DossierAccepted = (D : Dossier) → DossierForm D → dossier (codeDossier D) ≡ got D (length (codeDossier D))
+DossierAccepted = (D : Dossier) → DossierForm D → dossier (code_dossier D) ≡ got D (length (code_dossier D))
 
 -- Two well-formed dossiers never have the same words.
 abbrev pub DossierOnce : Type 0
-DossierOnce = (D E : Dossier) → DossierForm D → DossierForm E → codeDossier D ≡ codeDossier E → D ≡ E
+DossierOnce = (D E : Dossier) → DossierForm D → DossierForm E → code_dossier D ≡ code_dossier E → D ≡ E
 
 -- A refusal is that of a row of the table, and every row refuses.
 abbrev pub DossierShows : Type 0
@@ -28,4 +28,4 @@ DossierRows = (ws : List ℕ) (e p : ℕ) (us : List ℕ) → DossierRow ws e p 
 
 -- "The longest sound dossier has 8,167 words."
 abbrev pub DossierLongest : Type 0
-DossierLongest = ((D : Dossier) → DossierForm D → length (codeDossier D) ≤ 8167) × ((D : Dossier) × DossierForm D × (length (codeDossier D) ≡ 8167))
+DossierLongest = ((D : Dossier) → DossierForm D → length (code_dossier D) ≤ 8167) × ((D : Dossier) × DossierForm D × (length (code_dossier D) ≡ 8167))

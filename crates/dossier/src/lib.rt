@@ -1,9 +1,9 @@
 // Reads the dossier: sound, with where each section stands, or the refusal.
 ghost use Rattle.std.specs.Prelude.{◌≡◌, ◌≤◌, length};
-ghost use Rattle.words.specs.Answer.{asStep};
+ghost use Rattle.words.specs.Answer.{as_step};
 ghost use Rattle.dossier.specs.Read as read;
 ghost use Rattle.dossier.specs.Read.{clause, marked, operand, formula, entry};
-ghost use Rattle.dossier.specs.Found.{itemStep, itemsStep, itemSection, itemAfter, asked, asAsked, asForm};
+ghost use Rattle.dossier.specs.Found.{item_step, items_step, item_section, item_after, asked, as_asked, as_form};
 
 use promise::Layout;
 use words::{Got, Range, Step};
@@ -32,7 +32,7 @@ pub enum Form {
 
 // A credential, or a clause of a witness: head, body count, body.
 pub fn clause_at(s: &[u16], at: usize, n: usize) -> Step
-    ensures { result ≡ asStep (clause n s.now at) }
+    ensures { result ≡ as_step (clause n s.now at) }
 {
     match words::word_in(s, at, 0, n, 3) {
         Got::Stop(e, p, w) => Step::Refused(e, p, w),
@@ -42,7 +42,7 @@ pub fn clause_at(s: &[u16], at: usize, n: usize) -> Step
 
 // A clause of the dossier: a mark, and the clause.
 fn marked_at(s: &[u16], at: usize, n: usize) -> Step
-    ensures { result ≡ asStep (marked n s.now at) }
+    ensures { result ≡ as_step (marked n s.now at) }
 {
     match words::word_in(s, at, 0, 2, 5) {
         Got::Stop(e, p, w) => Step::Refused(e, p, w),
@@ -53,7 +53,7 @@ fn marked_at(s: &[u16], at: usize, n: usize) -> Step
 // The formula that begins at `at`, at most d deep, within the words before `end`; lp is the place of its length word.
 fn operand_at(s: &[u16], n: usize, lp: usize, end: usize, d: usize, at: usize) -> Step
     requires { end ≤ length s.now }
-    ensures { result ≡ asStep (operand n lp end d s.now at) }
+    ensures { result ≡ as_step (operand n lp end d s.now at) }
 {
     if d == 0 {
         return Step::Refused(8, lp, 1);
@@ -86,7 +86,7 @@ fn operand_at(s: &[u16], n: usize, lp: usize, end: usize, d: usize, at: usize) -
 // The whole formula, at most 16 deep. One that begins with an atom is that atom, and nothing has to be walked.
 fn whole_at(s: &[u16], n: usize, lp: usize, end: usize, at: usize) -> Step
     requires { end ≤ length s.now }
-    ensures { result ≡ asStep (operand n lp end 16 s.now at) }
+    ensures { result ≡ as_step (operand n lp end 16 s.now at) }
 {
     if at < end {
         let x = s[at] as usize;
@@ -99,7 +99,7 @@ fn whole_at(s: &[u16], n: usize, lp: usize, end: usize, at: usize) -> Step
 
 // A formula: its length, and exactly so many words.
 fn formula_at(s: &[u16], at: usize, n: usize) -> Step
-    ensures { result ≡ asStep (formula n s.now at) }
+    ensures { result ≡ as_step (formula n s.now at) }
 {
     match words::word_in(s, at, 1, 65, 2) {
         Got::Stop(e, p, w) => Step::Refused(e, p, w),
@@ -125,7 +125,7 @@ fn formula_at(s: &[u16], at: usize, n: usize) -> Step
 
 // A probe or the secret: its credentials, and its formula.
 fn entry_at(s: &[u16], at: usize, n: usize, m: usize) -> Step
-    ensures { result ≡ asStep (entry n m s.now at) }
+    ensures { result ≡ as_step (entry n m s.now at) }
 {
     match words::list_at(s, at, 0, 33, Range::Below(m, 6)) {
         Step::Refused(e, p, w) => Step::Refused(e, p, w),
@@ -135,7 +135,7 @@ fn entry_at(s: &[u16], at: usize, n: usize, m: usize) -> Step
 
 // One item of a section.
 fn item_at(s: &[u16], at: usize, item: Item, n: usize, m: usize) -> Step
-    ensures { result ≡ itemStep item n m s.now at }
+    ensures { result ≡ item_step item n m s.now at }
 {
     match item {
         Item::Clause => marked_at(s, at, n),
@@ -146,7 +146,7 @@ fn item_at(s: &[u16], at: usize, item: Item, n: usize, m: usize) -> Step
 
 // k items, one after the other.
 fn items_from(s: &[u16], at: usize, k: usize, item: Item, n: usize, m: usize) -> Step
-    ensures { result ≡ itemsStep item n m k s.now at }
+    ensures { result ≡ items_step item n m k s.now at }
 {
     let mut left = k;
     let mut p = at;
@@ -166,7 +166,7 @@ fn items_from(s: &[u16], at: usize, k: usize, item: Item, n: usize, m: usize) ->
 
 // A section that begins where these words do: a count that is at least lo and below hi, and so many items.
 fn section_of(s: &[u16], lo: usize, hi: usize, item: Item, n: usize, m: usize) -> Section
-    ensures { result ≡ itemSection item n m lo hi s.now }
+    ensures { result ≡ item_section item n m lo hi s.now }
 {
     match words::word_in(s, 0, lo, hi, 2) {
         Got::Stop(e, p, w) => Section::Refused(e, p, w),
@@ -188,7 +188,7 @@ pub fn section_after(
     m: usize,
 ) -> Section
     requires { p ≤ length s.now }
-    ensures { result ≡ itemAfter item n m lo hi s.now p }
+    ensures { result ≡ item_after item n m lo hi s.now p }
 {
     match section_of(&s[p..], lo, hi, item, n, m) {
         Section::Refused(e, q, w) => Section::Refused(e, p + q, w),
@@ -199,7 +199,7 @@ pub fn section_after(
 // The probes and the secret, whose sections begin at p, and no word after them: how many probes, and where the secret's section begins.
 fn asked_after(s: &[u16], p: usize, n: usize, m: usize) -> Section
     requires { (p ≤ length s.now) × (n ≤ 256) }
-    ensures { result ≡ asAsked p (asked n m s.now p) }
+    ensures { result ≡ as_asked p (asked n m s.now p) }
 {
     match section_after(s, p, 0, 65, Item::Entry, n, m) {
         Section::Refused(e, x, w) => Section::Refused(e, x, w),
@@ -217,7 +217,7 @@ fn asked_after(s: &[u16], p: usize, n: usize, m: usize) -> Section
 
 // The whole dossier.
 pub fn dossier(words: &[u16]) -> Form
-    ensures { result ≡ asForm (read.dossier words.now) }
+    ensures { result ≡ as_form (read.dossier words.now) }
 {
     let p = match words::list_at(words, 0, 1, 65, Range::Any) {
         Step::Refused(e, x, w) => {

@@ -12,12 +12,12 @@ unfoldable pub before : ℕ → List ℕ → ℕ → Bool
 before r t a = has t a and ltb (get_or t a 0) r
 
 -- in round r a clause adds its head, where that is not there and its body atoms all were before the round
-unfoldable pub fireOne : ℕ → Clause → List ℕ → List ℕ
-fireOne r c t = choose (not (has t c.head) and all (before r t) c.body) (set t c.head r) t
+unfoldable pub fire_one : ℕ → Clause → List ℕ → List ℕ
+fire_one r c t = choose (not (has t c.head) and all (before r t) c.body) (set t c.head r) t
 
-unfoldable pub fireAll : ℕ → Policy → List ℕ → List ℕ
-fireAll r [] t = t
-fireAll r (c ∷ P) t = fireAll r P (fireOne r c t)
+unfoldable pub fire_all : ℕ → Policy → List ℕ → List ℕ
+fire_all r [] t = t
+fire_all r (c ∷ P) t = fire_all r P (fire_one r c t)
 
 -- a formula read in the table
 unfoldable pub in_table : List ℕ → Reading Bool

@@ -6,13 +6,13 @@ use Rattle.meaning.specs.Formula.{joined}
 use Rattle.meaning.specs.Papers.{Marked, policy}
 use Rattle.meaning.specs.Verdict.{tried}
 use Rattle.promise.specs.Place.{Kind, part, many, Fit, Starts}
-use Rattle.promise.specs.Clause.{clauseAt, clauseOf, ClauseFits, credential}
+use Rattle.promise.specs.Clause.{clause_at, clause_of, ClauseFits, credential}
 use Rattle.promise.specs.Formula.{entry_of}
-use Rattle.promise.specs.Layout.{dossierAt, Laid}
+use Rattle.promise.specs.Layout.{dossier_at, Laid}
 use Rattle.promise.specs.declared.ClauseAt.{ClauseAt}
 use Rattle.promise.specs.declared.EntryAt.{EntryAt}
 use Rattle.promise.specs.declared.Layout.{Layout}
-use Rattle.evaluation.specs.Table.{fireOne}
+use Rattle.evaluation.specs.Table.{fire_one}
 use Rattle.evaluation.specs.declared.Which.{Which}
 use Rattle.evaluation.specs.declared.Which.TheVariants.{Own, Tried}
 
@@ -29,12 +29,12 @@ unfoldable pub kept : Bool → List Marked → Policy
 kept true l = map (λ (m : Marked). m.clause) l
 kept false l = map (λ (m : Marked). m.clause) (keep (λ (m : Marked). m.visible) l)
 
-unfoldable pub fireMarked : Bool → ℕ → Marked → List ℕ → List ℕ
-fireMarked every r m t = choose (every or m.visible) (fireOne r m.clause t) t
+unfoldable pub fire_marked : Bool → ℕ → Marked → List ℕ → List ℕ
+fire_marked every r m t = choose (every or m.visible) (fire_one r m.clause t) t
 
 -- a credential named by its number, which stands at p; the table has where each credential begins
 abbrev pub named_at : List ℕ → List ℕ → ℕ → ClauseAt
-named_at table ws p = clauseAt ws (get_or table (get_or ws p 0) 0)
+named_at table ws p = clause_at ws (get_or table (get_or ws p 0) 0)
 
 pub record NamedFits (n : ℕ) (table ws : List ℕ) (p : ℕ) : Type 0 where
   pub there : p < length ws
@@ -42,17 +42,17 @@ pub record NamedFits (n : ℕ) (table ws : List ℕ) (p : ℕ) : Type 0 where
   pub fits : ClauseFits n ws (get_or table (get_or ws p 0) 0)
 
 abbrev pub named : ℕ → List ℕ → Kind Clause
-named n table = record { read = λ ws p. clauseOf ws (named_at table ws p); next = λ ws p. p + 1; ok = NamedFits n table }
+named n table = record { read = λ ws p. clause_of ws (named_at table ws p); next = λ ws p. p + 1; ok = NamedFits n table }
 
 -- ---- by the dossier's layout o; d are the dossier's words, w the certificate's, whose witness has j clauses
 
-unfoldable pub policyAt : List ℕ → Layout → List ℕ → Which → Policy
-policyAt d o w Own = policy (dossierAt d o)
-policyAt d o w (Tried j) = tried (dossierAt d o) (many (credential o.atoms) w 2 j)
+unfoldable pub policy_at : List ℕ → Layout → List ℕ → Which → Policy
+policy_at d o w Own = policy (dossier_at d o)
+policy_at d o w (Tried j) = tried (dossier_at d o) (many (credential o.atoms) w 2 j)
 
 -- joined with the credentials of the entry that e is a view of
-unfoldable pub joinedAt : List ℕ → Layout → List ℕ → Which → EntryAt → Policy
-joinedAt d o w which e = joined (dossierAt d o).creds (policyAt d o w which) (entry_of d e).creds []
+unfoldable pub joined_at : List ℕ → Layout → List ℕ → Which → EntryAt → Policy
+joined_at d o w which e = joined (dossier_at d o).creds (policy_at d o w which) (entry_of d e).creds []
 
 -- what evaluation needs to have been found: of the policy, and of the entry
 unfoldable pub WhichFits : ℕ → List ℕ → Which → Type 0

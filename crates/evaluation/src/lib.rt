@@ -1,18 +1,18 @@
 // What a policy makes true, on the clauses held as words, and an entry's answer in it.
 ghost use Rattle.std.specs.Prelude.{◌≡◌, true, not, ◌++◌, ℕ, ◌+◌, ◌≤◌, ◌<◌, length, drop, replicate};
 ghost use Rattle.meaning.specs.Tests.{◌∈◌, ◌and◌, ◌or◌, ◌is◌, same, all, any, choose};
-ghost use Rattle.meaning.specs.Policy.{firstRound};
+ghost use Rattle.meaning.specs.Policy.{first_round};
 ghost use Rattle.meaning.specs.Formula.{read};
 ghost use Rattle.promise.specs.Code.{bit};
 ghost use Rattle.promise.specs.Place.{part, many, Fit, Starts, rows, filled};
-ghost use Rattle.promise.specs.Formula.{FormulaFits, formulaAt, formulaEnd, entry_at, entry_of, EntryFits, entry};
-ghost use Rattle.promise.specs.Clause.{clauseAt, clauseOf, ClauseFits, credential, markedAt, markedOf, marked};
+ghost use Rattle.promise.specs.Formula.{FormulaFits, formula_at, formula_end, entry_at, entry_of, EntryFits, entry};
+ghost use Rattle.promise.specs.Clause.{clause_at, clause_of, ClauseFits, credential, marked_at, marked_of, marked};
 ghost use Rattle.promise.specs.Layout.{Laid};
-ghost use Rattle.evaluation.specs.Table.{has, before, fireOne, fireAll, in_table};
-ghost use Rattle.evaluation.specs.Which.{kept, fireMarked, Fires, NamedFits, named_at, named};
-ghost use Rattle.evaluation.specs.Which.{WhichFits, policyAt, joinedAt, Ready, Sources};
-ghost use Rattle.evaluation.specs.Answer.{answer_of, answerWord, roundOf};
-ghost use Rattle.evaluation.specs.Held.{table_of, Held, lastOf, readIn};
+ghost use Rattle.evaluation.specs.Table.{has, before, fire_one, fire_all, in_table};
+ghost use Rattle.evaluation.specs.Which.{kept, fire_marked, Fires, NamedFits, named_at, named};
+ghost use Rattle.evaluation.specs.Which.{WhichFits, policy_at, joined_at, Ready, Sources};
+ghost use Rattle.evaluation.specs.Answer.{answer_of, answer_word, round_of};
+ghost use Rattle.evaluation.specs.Held.{table_of, Held, last_of, read_in};
 ghost use Rattle.evaluation.specs.declared.Which.TheVariants.{Own};
 
 use promise::{ClauseAt, EntryAt, Layout};
@@ -76,7 +76,7 @@ fn body_holds(s: &[u16], p: usize, k: usize, round: u8, table: &[u8]) -> bool
 // The clause adds its head, with the round's number, where that is not there and its body was before the round.
 fn fire(s: &[u16], c: ClauseAt, round: u8, table: &mut [u8])
     requires { Fires (length table.old) s.now c }
-    ensures { table.new ≡ fireOne round (clauseOf s.now c) table.old }
+    ensures { table.new ≡ fire_one round (clause_of s.now c) table.old }
 {
     let p = c.body;
     let k = c.count;
@@ -89,7 +89,7 @@ fn fire(s: &[u16], c: ClauseAt, round: u8, table: &mut [u8])
 // The same, if b.
 fn fire_if(s: &[u16], c: ClauseAt, b: bool, round: u8, table: &mut [u8])
     requires { Fires (length table.old) s.now c }
-    ensures { table.new ≡ choose b (fireOne round (clauseOf s.now c) table.old) table.old }
+    ensures { table.new ≡ choose b (fire_one round (clause_of s.now c) table.old) table.old }
 {
     if b {
         fire(s, c, round, table);
@@ -99,7 +99,7 @@ fn fire_if(s: &[u16], c: ClauseAt, b: bool, round: u8, table: &mut [u8])
 // Fires the clause at `at`, and answers the place after it.
 fn fire_at(s: &[u16], at: usize, round: u8, table: &mut [u8]) -> usize
     requires { ClauseFits (length table.old) s.now at }
-    ensures { (result ≡ (clauseAt s.now at).next) × (table.new ≡ fireOne round (clauseOf s.now (clauseAt s.now at)) table.old) }
+    ensures { (result ≡ (clause_at s.now at).next) × (table.new ≡ fire_one round (clause_of s.now (clause_at s.now at)) table.old) }
 {
     let c = promise::clause_at(s, at);
     fire(s, c, round, table);
@@ -109,7 +109,7 @@ fn fire_at(s: &[u16], at: usize, round: u8, table: &mut [u8]) -> usize
 // The k clauses of a witness from p on.
 fn fire_clauses(s: &[u16], p: usize, k: usize, round: u8, table: &mut [u8])
     requires { Fit (credential (length table.old)) s.now p k }
-    ensures { table.new ≡ fireAll round (many (credential (length table.old)) s.now p k) table.old }
+    ensures { table.new ≡ fire_all round (many (credential (length table.old)) s.now p k) table.old }
 {
     let mut at = p;
     let mut left = k;
@@ -122,7 +122,7 @@ fn fire_clauses(s: &[u16], p: usize, k: usize, round: u8, table: &mut [u8])
 // Fires the dossier's clause at `at` if every clause counts or it is visible, and answers the place after it.
 fn fire_marked_at(s: &[u16], at: usize, every: bool, round: u8, table: &mut [u8]) -> usize
     requires { ClauseFits (length table.old) s.now (at + 1) }
-    ensures { (result ≡ (markedAt s.now at).clause.next) × (table.new ≡ fireMarked every round (markedOf s.now (markedAt s.now at)) table.old) }
+    ensures { (result ≡ (marked_at s.now at).clause.next) × (table.new ≡ fire_marked every round (marked_of s.now (marked_at s.now at)) table.old) }
 {
     let m = promise::marked_at(s, at);
     let c = m.clause;
@@ -133,7 +133,7 @@ fn fire_marked_at(s: &[u16], at: usize, every: bool, round: u8, table: &mut [u8]
 // The k clauses of the dossier from p on: all of them, or the visible ones.
 fn fire_marked(s: &[u16], p: usize, k: usize, every: bool, round: u8, table: &mut [u8])
     requires { Fit (marked (length table.old)) s.now p k }
-    ensures { table.new ≡ fireAll round (kept every (many (marked (length table.old)) s.now p k)) table.old }
+    ensures { table.new ≡ fire_all round (kept every (many (marked (length table.old)) s.now p k)) table.old }
 {
     let mut at = p;
     let mut left = k;
@@ -146,7 +146,7 @@ fn fire_marked(s: &[u16], p: usize, k: usize, every: bool, round: u8, table: &mu
 // Fires the credential whose number stands at `at`; `creds` has where each credential begins.
 fn fire_named(d: &[u16], creds: &[usize], at: usize, round: u8, table: &mut [u8])
     requires { NamedFits (length table.old) creds.now d.now at }
-    ensures { table.new ≡ fireOne round (clauseOf d.now (named_at creds.now d.now at)) table.old }
+    ensures { table.new ≡ fire_one round (clause_of d.now (named_at creds.now d.now at)) table.old }
 {
     let i = promise::word(d, at);
     fire_at(d, creds[i], round, table);
@@ -155,7 +155,7 @@ fn fire_named(d: &[u16], creds: &[usize], at: usize, round: u8, table: &mut [u8]
 // The credentials that the k numbers from q on name.
 fn fire_chosen(d: &[u16], creds: &[usize], q: usize, k: usize, round: u8, table: &mut [u8])
     requires { Fit (named (length table.old) creds.now) d.now q k }
-    ensures { table.new ≡ fireAll round (many (named (length table.old) creds.now) d.now q k) table.old }
+    ensures { table.new ≡ fire_all round (many (named (length table.old) creds.now) d.now q k) table.old }
 {
     let mut place = q;
     let mut left = k;
@@ -169,7 +169,7 @@ fn fire_chosen(d: &[u16], creds: &[usize], q: usize, k: usize, round: u8, table:
 // The clauses of the policy that is evaluated.
 fn fire_policy(d: &[u16], o: Layout, w: &[u16], which: Which, round: u8, table: &mut [u8])
     requires { Laid d.now o × WhichFits o.atoms w.now which × (length table.old ≡ o.atoms) }
-    ensures { table.new ≡ fireAll round (policyAt d.now o w.now which) table.old }
+    ensures { table.new ≡ fire_all round (policy_at d.now o w.now which) table.old }
 {
     let c = o.clauses;
     let k = o.nclauses;
@@ -210,7 +210,7 @@ fn one_round(
     table: &mut [u8],
 ) -> bool
     requires { Sources d.now o creds.now w.now which e × (length table.old ≡ o.atoms) }
-    ensures { (table.new ≡ fireAll round (joinedAt d.now o w.now which e) table.old) × (result ≡ any (λ x. x is round) table.new) }
+    ensures { (table.new ≡ fire_all round (joined_at d.now o w.now which e) table.old) × (result ≡ any (λ x. x is round) table.new) }
 {
     fire_policy(d, o, w, which, round, table);
     fire_chosen(d, creds, e.creds, e.count, round, table);
@@ -220,7 +220,7 @@ fn one_round(
 // The rounds, on a table with no atoms: each atom gets the number of the round that first adds it. It stops at a round that adds none.
 fn run(d: &[u16], o: Layout, creds: &[usize], w: &[u16], which: Which, e: EntryAt, table: &mut [u8])
     requires { Sources d.now o creds.now w.now which e × (table.old ≡ replicate o.atoms 0) }
-    ensures { table.new ≡ rows (firstRound (joinedAt d.now o w.now which e)) o.atoms }
+    ensures { table.new ≡ rows (first_round (joined_at d.now o w.now which e)) o.atoms }
 {
     let mut round = 0u8;
     while round < 64 {
@@ -273,7 +273,7 @@ pub struct Truth {
 // The truth in the table of the formula at `at`, which is at most `deep` deep.
 fn truth_at(s: &[u16], at: usize, deep: usize, table: &[u8]) -> Truth
     requires { FormulaFits (length table.now) deep s.now at }
-    ensures { (result.holds ≡ read (in_table table.now) (formulaAt deep s.now at)) × (result.next ≡ formulaEnd deep s.now at) }
+    ensures { (result.holds ≡ read (in_table table.now) (formula_at deep s.now at)) × (result.next ≡ formula_end deep s.now at) }
 {
     let x = promise::word(s, at);
     let p = at + 1;
@@ -308,7 +308,7 @@ fn truth_at(s: &[u16], at: usize, deep: usize, table: &[u8]) -> Truth
 // The answer of the entry at p, by the table of what holds. For an atom nothing has to be walked.
 pub fn answer_in(d: &[u16], p: usize, table: &[u8]) -> bool
     requires { ((entry_at d.now p).next ≤ length d.now) × FormulaFits (length table.now) 16 d.now (entry_at d.now p).formula }
-    ensures { result ≡ readIn d.now p table.now }
+    ensures { result ≡ read_in d.now p table.now }
 {
     let e = promise::entry_at(d, p);
     let f = e.formula;
@@ -388,7 +388,7 @@ pub fn rounds_at(
     table: &mut [u16],
 )
     requires { Ready d.now o creds.now w.now which × EntryFits o.atoms o.ncreds d.now p × (o.atoms ≤ length table.old) }
-    ensures { table.new ≡ filled (roundOf d.now o w.now which p) o.atoms table.old }
+    ensures { table.new ≡ filled (round_of d.now o w.now which p) o.atoms table.old }
 {
     let e = promise::entry_at(d, p);
     let n = o.atoms;
@@ -406,7 +406,7 @@ pub fn word_of(a: bool) -> u16
 // Where the last of the k things of the table begins; 0 if there is none.
 pub fn last_of(table: &[usize], k: usize) -> usize
     requires { k ≤ length table.now }
-    ensures { result ≡ lastOf table.now k }
+    ensures { result ≡ last_of table.now k }
 {
     if k == 0 {
         return 0;
@@ -424,7 +424,7 @@ fn answer_probes(
     table: &mut [u16],
 ) -> [u8; 64]
     requires { Ready d.now o creds.now w.now Own × Starts ((entry o.atoms o.ncreds).next d.now) o.probes o.nprobes probes.now × (o.nprobes ≤ length table.old) }
-    ensures { (table.new ≡ filled (answerWord d.now o) o.nprobes table.old) × Held d.now o w.now Own (lastOf probes.now o.nprobes) result }
+    ensures { (table.new ≡ filled (answer_word d.now o) o.nprobes table.old) × Held d.now o w.now Own (last_of probes.now o.nprobes) result }
 {
     let n = o.nprobes;
     let m = o.atoms;
@@ -450,7 +450,7 @@ pub fn answers(
     table: &mut [u16],
 )
     requires { Ready d.now o creds.now w.now Own × Starts ((entry o.atoms o.ncreds).next d.now) o.probes o.nprobes probes.now × (o.nprobes ≤ length table.old) }
-    ensures { table.new ≡ filled (answerWord d.now o) o.nprobes table.old }
+    ensures { table.new ≡ filled (answer_word d.now o) o.nprobes table.old }
 {
     answer_probes(d, o, creds, probes, w, table);
 }
@@ -465,7 +465,7 @@ pub fn own_answers(
     table: &mut [u16],
 ) -> bool
     requires { Ready d.now o creds.now w.now Own × Starts ((entry o.atoms o.ncreds).next d.now) o.probes o.nprobes probes.now × (o.nprobes ≤ length table.old) }
-    ensures { (table.new ≡ filled (answerWord d.now o) o.nprobes table.old) × (result ≡ answer_of d.now o w.now Own o.secret) }
+    ensures { (table.new ≡ filled (answer_word d.now o) o.nprobes table.old) × (result ≡ answer_of d.now o w.now Own o.secret) }
 {
     let held = answer_probes(d, o, creds, probes, w, table);
     let last = last_of(probes, o.nprobes);

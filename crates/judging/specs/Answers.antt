@@ -10,7 +10,7 @@ use Rattle.reply.specs.Answer.{refused}
 use Rattle.reply.specs.declared.Paper.TheVariants.{Dossier}
 use Rattle.reply.specs.declared.Written.{Written}
 use Rattle.reply.specs.declared.Written.TheVariants.{Count, Refused}
-use Rattle.judging.specs.Table.{wordTo}
+use Rattle.judging.specs.Table.{word_to}
 
 -- the reply, with the table t lent; 18 "answers table shorter than the probe count": "empty part at the dossier's start"
 unfoldable pub count_of : Out papers.Dossier → List ℕ → Written
@@ -19,11 +19,11 @@ count_of (bad e p w) t = Refused (refused e Dossier p w)
 
 -- what the table then holds
 unfoldable pub table_of : Out papers.Dossier → List ℕ → List ℕ
-table_of (got D q) t = choose (leb (length D.probes) (length t)) (filled (wordTo D) (length D.probes) t) t
+table_of (got D q) t = choose (leb (length D.probes) (length t)) (filled (word_to D) (length D.probes) t) t
 table_of (bad e p w) t = t
 
-unfoldable pub answersOf : List ℕ → List ℕ → Written
-answersOf d t = count_of (dossier d) t
+unfoldable pub answers_of : List ℕ → List ℕ → Written
+answers_of d t = count_of (dossier d) t
 
-unfoldable pub tableAfter : List ℕ → List ℕ → List ℕ
-tableAfter d t = table_of (dossier d) t
+unfoldable pub table_after : List ℕ → List ℕ → List ℕ
+table_after d t = table_of (dossier d) t

@@ -46,38 +46,38 @@ Meets f g (answered d t reply after) = ((g d t).reply ≡ reply) × ((g d t).tab
 
 -- (a) "T1's answers are 1, 0, the count 2": the lent table has a word more than T1 has probes. 01 names no certificate for (i) "T1 without its last word" and (j) "T1 with one word
 -- more": P.
-abbrev pub caseA : Case
-caseA = answered T1 (7 ∷ 7 ∷ 7 ∷ []) (Count 2) (1 ∷ 0 ∷ 7 ∷ [])
+abbrev pub case_a : Case
+case_a = answered T1 (7 ∷ 7 ∷ 7 ∷ []) (Count 2) (1 ∷ 0 ∷ 7 ∷ [])
 
-abbrev pub caseB : Case
-caseB = judged T1 P (accepted Detectable)
+abbrev pub case_b : Case
+case_b = judged T1 P (accepted Detectable)
 
-abbrev pub caseC : Case
-caseC = judged T2 P (refused 16 Certificate 10 7)
+abbrev pub case_c : Case
+case_c = judged T2 P (refused 16 Certificate 10 7)
 
-abbrev pub caseD : Case
-caseD = judged T2 (1 ∷ 1 ∷ 2 ∷ 0 ∷ []) (accepted Opaque)
+abbrev pub case_d : Case
+case_d = judged T2 (1 ∷ 1 ∷ 2 ∷ 0 ∷ []) (accepted Opaque)
 
-abbrev pub caseE : Case
-caseE = judged T1 (1 ∷ 1 ∷ 2 ∷ 0 ∷ []) (refused 14 Dossier 21 3)
+abbrev pub case_e : Case
+case_e = judged T1 (1 ∷ 1 ∷ 2 ∷ 0 ∷ []) (refused 14 Dossier 21 3)
 
-abbrev pub caseF : Case
-caseF = judged T1 (1 ∷ 1 ∷ 0 ∷ 0 ∷ []) (refused 15 Dossier 25 3)
+abbrev pub case_f : Case
+case_f = judged T1 (1 ∷ 1 ∷ 0 ∷ 0 ∷ []) (refused 15 Dossier 25 3)
 
-abbrev pub caseG : Case
-caseG = judged T1 (1 ∷ 0 ∷ []) (refused 14 Dossier 17 4)
+abbrev pub case_g : Case
+case_g = judged T1 (1 ∷ 0 ∷ []) (refused 14 Dossier 17 4)
 
-abbrev pub caseH : Case
-caseH = judged T3 (1 ∷ 0 ∷ []) (accepted Opaque)
+abbrev pub case_h : Case
+case_h = judged T3 (1 ∷ 0 ∷ []) (accepted Opaque)
 
-abbrev pub caseI : Case
-caseI = judged (take 27 T1) P (refused 1 Dossier 27 0)
+abbrev pub case_i : Case
+case_i = judged (take 27 T1) P (refused 1 Dossier 27 0)
 
-abbrev pub caseJ : Case
-caseJ = judged (T1 ++ (0 ∷ [])) P (refused 9 Dossier 28 1)
+abbrev pub case_j : Case
+case_j = judged (T1 ++ (0 ∷ [])) P (refused 9 Dossier 28 1)
 
 abbrev pub cases : List Case
-cases = caseA ∷ caseB ∷ caseC ∷ caseD ∷ caseE ∷ caseF ∷ caseG ∷ caseH ∷ caseI ∷ caseJ ∷ []
+cases = case_a ∷ case_b ∷ case_c ∷ case_d ∷ case_e ∷ case_f ∷ case_g ∷ case_h ∷ case_i ∷ case_j ∷ []
 
 abbrev pub CasesHold : Judging → Answering → Type 0
 CasesHold f g = (c : Case) → c ∈ cases → Meets f g c

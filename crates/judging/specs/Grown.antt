@@ -3,8 +3,8 @@
 use Rattle.std.specs.Prelude.{ℕ, Bool, true, false, List, [], ◌∷◌, ◌++◌, ◌≡◌}
 use Rattle.meaning.specs.Policy.{Clause, fact}
 use Rattle.meaning.specs.Papers.{Entry, Dossier, witness, proof}
-use Rattle.meaning.specs.Example.{entry_of, exampleWith, t1, t2, t3, factTwo, p}
-use Rattle.promise.specs.Code.{codeDossier, codeCertificate}
+use Rattle.meaning.specs.Example.{entry_of, example_with, t1, t2, t3, fact_two, p}
+use Rattle.promise.specs.Code.{code_dossier, code_certificate}
 use Rattle.reply.specs.declared.Verdict.{Verdict}
 use Rattle.reply.specs.declared.Verdict.TheVariants.{Opaque, Detectable}
 use Rattle.judging.specs.Table.{Long}
@@ -13,8 +13,8 @@ use Rattle.judging.specs.Demands.{Accepts, Grown}
 use Rattle.judging.specs.Cases.{T1, T2, T3, P}
 
 -- T1 with this mark on its first clause, and more credentials and probes after its own
-abbrev pub t1With : Bool → List Clause → List Entry → Dossier
-t1With mark creds probes = exampleWith mark creds (t1.probes ++ probes)
+abbrev pub t1_with : Bool → List Clause → List Entry → Dossier
+t1_with mark creds probes = example_with mark creds (t1.probes ++ probes)
 
 -- D grows to E, and the certificate's words c are accepted for both, with every table that is long enough
 pub record Stays (f : Judging) (v : Verdict) (c : List ℕ) (D E : Dossier) : Type 0 where
@@ -23,13 +23,13 @@ pub record Stays (f : Judging) (v : Verdict) (c : List ℕ) (D E : Dossier) : Ty
   pub after : (t : List ℕ) → Long E t → Accepts f v E c t
 
 pub record NotEmpty (f : Judging) : Type 0 where
-  pub words : (codeDossier t1 ≡ T1) × (codeDossier t2 ≡ T2) × (codeDossier t3 ≡ T3)
-  pub proofWords : codeCertificate (proof p) ≡ P
-  pub witnessWords : codeCertificate (witness factTwo) ≡ 1 ∷ 1 ∷ 2 ∷ 0 ∷ []
+  pub words : (code_dossier t1 ≡ T1) × (code_dossier t2 ≡ T2) × (code_dossier t3 ≡ T3)
+  pub proof_words : code_certificate (proof p) ≡ P
+  pub witness_words : code_certificate (witness fact_two) ≡ 1 ∷ 1 ∷ 2 ∷ 0 ∷ []
   -- a third probe, 1 without credentials; the hidden clause marked visible; a second credential, the fact 2
-  pub probe : Stays f Detectable P t1 (t1With false [] (entry_of [] 1 ∷ []))
-  pub mark : Stays f Detectable P t1 (t1With true [] [])
-  pub credential : Stays f Detectable P t1 (t1With false (fact 2 ∷ []) [])
-  pub toT1 : Grown t2 t1
+  pub probe : Stays f Detectable P t1 (t1_with false [] (entry_of [] 1 ∷ []))
+  pub mark : Stays f Detectable P t1 (t1_with true [] [])
+  pub credential : Stays f Detectable P t1 (t1_with false (fact 2 ∷ []) [])
+  pub to_t1 : Grown t2 t1
   -- the witness of (d)
   pub witnessed : Stays f Opaque (1 ∷ 1 ∷ 2 ∷ 0 ∷ []) t3 t2

@@ -7,17 +7,17 @@ use Rattle.meaning.specs.Papers.{Dossier, Certificate}
 use Rattle.meaning.specs.Verdict.{judge}
 use Rattle.dossier.specs.Read.{dossier}
 use Rattle.certificate.specs.Read.{certificate}
-use Rattle.verdict.specs.Told.{roundsAt}
+use Rattle.verdict.specs.Told.{rounds_at}
 
 -- with the dossier D read, and what was read of the certificate
-unfoldable pub roundsProposal : Dossier → Out Certificate → List ℕ → List ℕ
-roundsProposal D (got C q) t = choose (leb (length D.labels) (length t)) (roundsAt (length D.labels) D C (judge D C) t) t
-roundsProposal D (bad e p w) t = t
+unfoldable pub rounds_proposal : Dossier → Out Certificate → List ℕ → List ℕ
+rounds_proposal D (got C q) t = choose (leb (length D.labels) (length t)) (rounds_at (length D.labels) D C (judge D C) t) t
+rounds_proposal D (bad e p w) t = t
 
 -- with what was read of the dossier
-unfoldable pub roundsRead : Out Dossier → List ℕ → List ℕ → List ℕ
-roundsRead (got D q) c t = roundsProposal D (certificate (length D.labels) (length D.creds) c) t
-roundsRead (bad e p w) c t = t
+unfoldable pub rounds_read : Out Dossier → List ℕ → List ℕ → List ℕ
+rounds_read (got D q) c t = rounds_proposal D (certificate (length D.labels) (length D.creds) c) t
+rounds_read (bad e p w) c t = t
 
-unfoldable pub roundsAfter : List ℕ → List ℕ → List ℕ → List ℕ
-roundsAfter d c t = roundsRead (dossier d) c t
+unfoldable pub rounds_after : List ℕ → List ℕ → List ℕ → List ℕ
+rounds_after d c t = rounds_read (dossier d) c t

@@ -7,22 +7,22 @@ use Rattle.promise.specs.Place.{place, filled}
 use Rattle.promise.specs.Thing.{next_of}
 use Rattle.promise.specs.declared.Layout.{Layout}
 use Rattle.promise.specs.declared.Thing.TheVariants.{Clause, Credential, Entry, Line}
-use Rattle.promise.proofs.Place.{filled-starts}
+use Rattle.promise.proofs.Place.{filled_starts}
 use Rattle.lines.specs.Ready.{ClauseStarts, CredStarts, ProbeStarts, LineStarts}
 
 module _ (ws : List ℕ) (o : Layout) (old : List ℕ) {t : List ℕ} where
-  pub clauses-filled : t ≡ filled (place (next_of Clause ws) o.clauses) o.nclauses old → o.nclauses ≤ length old → ClauseStarts ws o t
+  pub clauses_filled : t ≡ filled (place (next_of Clause ws) o.clauses) o.nclauses old → o.nclauses ≤ length old → ClauseStarts ws o t
   unfolding next_of
-  clauses-filled = filled-starts _ _ _ old
+  clauses_filled = filled_starts _ _ _ old
 
-  pub creds-filled : t ≡ filled (place (next_of Credential ws) o.creds) o.ncreds old → o.ncreds ≤ length old → CredStarts ws o t
+  pub creds_filled : t ≡ filled (place (next_of Credential ws) o.creds) o.ncreds old → o.ncreds ≤ length old → CredStarts ws o t
   unfolding next_of
-  creds-filled = filled-starts _ _ _ old
+  creds_filled = filled_starts _ _ _ old
 
-  pub probes-filled : t ≡ filled (place (next_of Entry ws) o.probes) o.nprobes old → o.nprobes ≤ length old → ProbeStarts ws o t
+  pub probes_filled : t ≡ filled (place (next_of Entry ws) o.probes) o.nprobes old → o.nprobes ≤ length old → ProbeStarts ws o t
   unfolding next_of
-  probes-filled = filled-starts _ _ _ old
+  probes_filled = filled_starts _ _ _ old
 
-pub lines-filled : (ws : List ℕ) (n : ℕ) (old : List ℕ) {t : List ℕ} → t ≡ filled (place (next_of Line ws) 2) n old → n ≤ length old → LineStarts ws n t
+pub lines_filled : (ws : List ℕ) (n : ℕ) (old : List ℕ) {t : List ℕ} → t ≡ filled (place (next_of Line ws) 2) n old → n ≤ length old → LineStarts ws n t
 unfolding next_of
-lines-filled ws n old = filled-starts _ _ _ old
+lines_filled ws n old = filled_starts _ _ _ old

@@ -3,19 +3,19 @@ use Rattle.std.specs.Prelude.{ℕ, Bool, true, not, List}
 use Rattle.meaning.specs.Tests.{◌and◌, ◌or◌, ◌is◌, all, mem, at, named}
 use Rattle.meaning.specs.Policy.{Clause}
 use Rattle.meaning.specs.Papers.{Statement, Literal}
-use Rattle.meaning.specs.Rules.{sameStatement, isIn, denied, claims, omit, others}
+use Rattle.meaning.specs.Rules.{same_statement, is_in, denied, claims, omit, others}
 
 -- an atom is denied, or, where the statement's own count, is one of them
-unfoldable pub coveredAtom : Bool → List Literal → Statement → ℕ → Bool
-coveredAtom own ls s x = own and mem x s.atoms or denied ls s x
+unfoldable pub covered_atom : Bool → List Literal → Statement → ℕ → Bool
+covered_atom own ls s x = own and mem x s.atoms or denied ls s x
 
 -- a credential is one of the statement's own, or its head is denied
-unfoldable pub coveredCred : List Clause → List Literal → Statement → ℕ → Bool
-coveredCred cs ls s x = mem x s.creds or named (at cs x) λ c. denied ls s c.head
+unfoldable pub covered_cred : List Clause → List Literal → Statement → ℕ → Bool
+covered_cred cs ls s x = mem x s.creds or named (at cs x) λ c. denied ls s c.head
 
 -- rule 6, of l and m, all but the credentials
 unfoldable pub cuts : List Literal → Literal → Literal → Bool
-cuts ls l m = l.positive and not m.positive and l.said.atom is m.said.atom and all (coveredAtom true ls l.said) m.said.atoms
+cuts ls l m = l.positive and not m.positive and l.said.atom is m.said.atom and all (covered_atom true ls l.said) m.said.atoms
 
 -- rule 7, of credential d, whose number is c, and m, l and h
 unfoldable pub withouts : Clause → ℕ → Literal → Literal → Literal → Bool
@@ -27,5 +27,5 @@ withouts d c m l h =
 -- rule 8, of p, which is number i of us, and q, which is number j of vs
 unfoldable pub resolves : List Literal → List Literal → ℕ → Literal → List Literal → ℕ → Literal → Bool
 resolves ls us i p vs j q =
-    p.positive and not q.positive and sameStatement p.said q.said
-    and all (isIn ls) (others us i) and all (isIn ls) (others vs j)
+    p.positive and not q.positive and same_statement p.said q.said
+    and all (is_in ls) (others us i) and all (is_in ls) (others vs j)

@@ -4,7 +4,7 @@ use Rattle.std.proofs.Math.Option.{Option, none, some}
 use Rattle.meaning.specs.Tests.{◌is◌, choose}
 use Rattle.meaning.specs.Papers.{Literal}
 use Rattle.promise.specs.Place.{Fit}
-use Rattle.promise.specs.Line.{literalOf, literal, Held}
+use Rattle.promise.specs.Line.{literal_of, literal, Held}
 use Rattle.promise.specs.declared.ClauseAt.{ClauseAt}
 use Rattle.promise.specs.declared.LineAt.{LineAt}
 use Rattle.lines.specs.declared.Found.{Found}
@@ -32,5 +32,5 @@ BodyFits ws c = c.body + c.count ≤ length ws
 
 -- an answer is the view of the literal o, if there is one
 unfoldable pub NamesLiteral : List ℕ → Option Literal → LiteralFound → Type 0
-NamesLiteral ws o (literals.Is l) = (o ≡ some (literalOf ws l)) × Held ws l
+NamesLiteral ws o (literals.Is l) = (o ≡ some (literal_of ws l)) × Held ws l
 NamesLiteral ws o literals.Nothing = o ≡ none

@@ -9,7 +9,7 @@ use Rattle.promise.specs.Place.{Starts}
 use Rattle.promise.specs.Clause.{credential, marked}
 use Rattle.promise.specs.Formula.{entry}
 use Rattle.promise.specs.Line.{line}
-use Rattle.promise.specs.Layout.{dossierAt, Laid}
+use Rattle.promise.specs.Layout.{dossier_at, Laid}
 use Rattle.promise.specs.declared.Layout.{Layout}
 
 -- a table has where each clause, each credential, each probe of the dossier begins, and each of the n lines before this one
@@ -27,13 +27,13 @@ LineStarts s n t = Starts (line.next s) 2 n t
 
 -- a table has the policy's answer to each probe
 abbrev pub Told : List ℕ → Layout → List ℕ → Type 0
-Told d o table = (j : ℕ) (e : Entry) → at (dossierAt d o).probes j ≡ some e → get_or table j 0 ≡ bit (answer (dossierAt d o) (policy (dossierAt d o)) e)
+Told d o table = (j : ℕ) (e : Entry) → at (dossier_at d o).probes j ≡ some e → get_or table j 0 ≡ bit (answer (dossier_at d o) (policy (dossier_at d o)) e)
 
-pub record Ready (d : List ℕ) (o : Layout) (atClause atCred atProbe answers : List ℕ) (goal : Bool) : Type 0 where
+pub record Ready (d : List ℕ) (o : Layout) (at_clause at_cred at_probe answers : List ℕ) (goal : Bool) : Type 0 where
   pub laid : Laid d o
-  pub clauses : ClauseStarts d o atClause
-  pub creds : CredStarts d o atCred
-  pub probes : ProbeStarts d o atProbe
+  pub clauses : ClauseStarts d o at_clause
+  pub creds : CredStarts d o at_cred
+  pub probes : ProbeStarts d o at_probe
   pub long : o.nprobes ≤ length answers
   pub told : Told d o answers
-  pub aimed : goal ≡ aim (dossierAt d o)
+  pub aimed : goal ≡ aim (dossier_at d o)

@@ -7,10 +7,10 @@ use Rattle.meaning.specs.Rules.{supposed}
 use Rattle.lines.specs.declared.Tri.{Tri}
 use Rattle.lines.specs.declared.Tri.TheVariants.{No, Yes, Unknown}
 
-abbrev pub triOf : Option Bool → Tri
-triOf none = Unknown
-triOf (some true) = Yes
-triOf (some false) = No
+abbrev pub tri_of : Option Bool → Tri
+tri_of none = Unknown
+tri_of (some true) = Yes
+tri_of (some false) = No
 
 abbrev pub not3 : Tri → Tri
 not3 No = Yes
@@ -29,7 +29,7 @@ or3 a b = not3 (and3 (not3 a) (not3 b))
 
 -- how a formula is read, given the credentials S, when each of the literals ls is false
 abbrev pub supposing : List Literal → List ℕ → Reading Tri
-supposing ls S = record { always = Yes; atom = λ a. triOf (supposed ls (record { creds = S; atoms = []; atom = a })); neg = not3; conj = and3; disj = or3 }
+supposing ls S = record { always = Yes; atom = λ a. tri_of (supposed ls (record { creds = S; atoms = []; atom = a })); neg = not3; conj = and3; disj = or3 }
 
 -- a value that is known, and is b
 abbrev pub gives3 : Tri → Bool → Bool

@@ -6,15 +6,15 @@ ghost use Rattle.meaning.specs.Tests.{◌and◌, ◌or◌, ◌is◌, agree, same
 ghost use Rattle.meaning.specs.Formula.{read};
 ghost use Rattle.meaning.specs.Papers.{Dossier, Line, Rule};
 ghost use Rattle.meaning.specs.Looks.{aim};
-ghost use Rattle.meaning.specs.Rules.{sameStatement, supposed, value, ◌gives◌, isIn, denied, fires, claims, omit, others, follows};
+ghost use Rattle.meaning.specs.Rules.{same_statement, supposed, value, ◌gives◌, is_in, denied, fires, claims, omit, others, follows};
 ghost use Rattle.promise.specs.Place.{part, many, Fit, Starts};
-ghost use Rattle.promise.specs.Clause.{clauseOf};
-ghost use Rattle.promise.specs.Formula.{formulaAt, formulaEnd, FormulaFits, entry_at, entry_of};
-ghost use Rattle.promise.specs.Line.{Held, said_of, literalOf, literalsOf, dataCount, ruleOf, line_at, line_of, line, LineFits};
-ghost use Rattle.promise.specs.Layout.{dossierAt, Laid};
+ghost use Rattle.promise.specs.Clause.{clause_of};
+ghost use Rattle.promise.specs.Formula.{formula_at, formula_end, FormulaFits, entry_at, entry_of};
+ghost use Rattle.promise.specs.Line.{Held, said_of, literal_of, literals_of, data_count, rule_of, line_at, line_of, line, LineFits};
+ghost use Rattle.promise.specs.Layout.{dossier_at, Laid};
 ghost use Rattle.lines.specs.Named.{row_of, taken_of, LiteralsFit, BodyFits, NamesLiteral};
-ghost use Rattle.lines.specs.Tri.{triOf, not3, and3, or3, supposing, gives3};
-ghost use Rattle.lines.specs.Asks.{coveredAtom, coveredCred, cuts, withouts, resolves};
+ghost use Rattle.lines.specs.Tri.{tri_of, not3, and3, or3, supposing, gives3};
+ghost use Rattle.lines.specs.Asks.{covered_atom, covered_cred, cuts, withouts, resolves};
 ghost use Rattle.lines.specs.Ready.{ClauseStarts, CredStarts, ProbeStarts, LineStarts, Told, Ready};
 
 use promise::{
@@ -52,7 +52,7 @@ fn pick(table: &[usize], k: usize, j: usize) -> Found
 // Literal j of the line.
 fn literal_nth(s: &[u16], v: LineAt, j: usize) -> LiteralFound
     requires { LiteralsFit s.now v }
-    ensures { NamesLiteral s.now (at (literalsOf s.now v) j) result }
+    ensures { NamesLiteral s.now (at (literals_of s.now v) j) result }
 {
     if j < v.count {
         let q = after_literals(s, v.literals, j);
@@ -130,7 +130,7 @@ fn among(s: &[u16], p: usize, k: usize, x: usize) -> bool
 // Whether m and l have one sign and one statement.
 fn is_one(s: &[u16], m: LiteralAt, l: LiteralAt) -> bool
     requires { Held s.now m × Held s.now l }
-    ensures { result ≡ (agree m.positive l.positive and sameStatement (said_of s.now m) (said_of s.now l)) }
+    ensures { result ≡ (agree m.positive l.positive and same_statement (said_of s.now m) (said_of s.now l)) }
 {
     if m.positive != l.positive {
         return false;
@@ -141,7 +141,7 @@ fn is_one(s: &[u16], m: LiteralAt, l: LiteralAt) -> bool
 // Whether l is one of the line's literals.
 fn is_in(s: &[u16], v: LineAt, l: LiteralAt) -> bool
     requires { LiteralsFit s.now v × Held s.now l }
-    ensures { result ≡ isIn (literalsOf s.now v) (literalOf s.now l) }
+    ensures { result ≡ is_in (literals_of s.now v) (literal_of s.now l) }
 {
     let mut at = v.literals;
     let mut left = v.count;
@@ -159,7 +159,7 @@ fn is_in(s: &[u16], v: LineAt, l: LiteralAt) -> bool
 // Whether m, number x from where one is left out, is that one or one of v's literals.
 fn other_in(s: &[u16], v: LineAt, m: LiteralAt, x: usize) -> bool
     requires { LiteralsFit s.now v × Held s.now m }
-    ensures { result ≡ (x is 0 or isIn (literalsOf s.now v) (literalOf s.now m)) }
+    ensures { result ≡ (x is 0 or is_in (literals_of s.now v) (literal_of s.now m)) }
 {
     if x == 0 {
         return true;
@@ -184,7 +184,7 @@ fn alone(u: LineAt, i: usize) -> bool
 // Whether each literal of u, but for number i, is one of v's.
 fn others_in(s: &[u16], v: LineAt, u: LineAt, i: usize) -> bool
     requires { LiteralsFit s.now v × LiteralsFit s.now u }
-    ensures { result ≡ all (isIn (literalsOf s.now v)) (others (literalsOf s.now u) i) }
+    ensures { result ≡ all (is_in (literals_of s.now v)) (others (literals_of s.now u) i) }
 {
     let mut at = u.literals;
     let mut left = u.count;
@@ -205,7 +205,7 @@ fn others_in(s: &[u16], v: LineAt, u: LineAt, i: usize) -> bool
 // Whether that is so of a, but for number i, and of b, but for number j.
 fn sides_in(s: &[u16], v: LineAt, a: LineAt, i: usize, b: LineAt, j: usize) -> bool
     requires { LiteralsFit s.now v × LiteralsFit s.now a × LiteralsFit s.now b }
-    ensures { result ≡ (all (isIn (literalsOf s.now v)) (others (literalsOf s.now a) i) and all (isIn (literalsOf s.now v)) (others (literalsOf s.now b) j)) }
+    ensures { result ≡ (all (is_in (literals_of s.now v)) (others (literals_of s.now a) i) and all (is_in (literals_of s.now v)) (others (literals_of s.now b) j)) }
 {
     if alone(a, i) || others_in(s, v, a, i) {
         return alone(b, j) || others_in(s, v, b, j);
@@ -216,7 +216,7 @@ fn sides_in(s: &[u16], v: LineAt, a: LineAt, i: usize, b: LineAt, j: usize) -> b
 // Whether the atom b has a negative literal that shares with l.
 fn denies(s: &[u16], v: LineAt, l: LiteralAt, b: usize) -> bool
     requires { LiteralsFit s.now v × Held s.now l }
-    ensures { result ≡ denied (literalsOf s.now v) (said_of s.now l) b }
+    ensures { result ≡ denied (literals_of s.now v) (said_of s.now l) b }
 {
     let m = LiteralAt {
         positive: false,
@@ -233,7 +233,7 @@ fn denies(s: &[u16], v: LineAt, l: LiteralAt, b: usize) -> bool
 // Whether the atom x is denied, or, where l's own atoms count, is one of them.
 fn atom_covered(s: &[u16], v: LineAt, l: LiteralAt, own: bool, x: usize) -> bool
     requires { LiteralsFit s.now v × Held s.now l }
-    ensures { result ≡ coveredAtom own (literalsOf s.now v) (said_of s.now l) x }
+    ensures { result ≡ covered_atom own (literals_of s.now v) (said_of s.now l) x }
 {
     if own {
         if among(s, l.atoms, l.natoms, x) {
@@ -254,7 +254,7 @@ fn atoms_covered(
     own: bool,
 ) -> bool
     requires { (q + n ≤ length t.now) × LiteralsFit s.now v × Held s.now l }
-    ensures { result ≡ all (coveredAtom own (literalsOf s.now v) (said_of s.now l)) (part t.now q n) }
+    ensures { result ≡ all (covered_atom own (literals_of s.now v) (said_of s.now l)) (part t.now q n) }
 {
     let mut at = q;
     let mut left = n;
@@ -281,7 +281,7 @@ fn credential_covered(
     x: usize,
 ) -> bool
     requires { Laid d.now o × CredStarts d.now o creds.now × LiteralsFit s.now v × Held s.now l }
-    ensures { result ≡ coveredCred (dossierAt d.now o).creds (literalsOf s.now v) (said_of s.now l) x }
+    ensures { result ≡ covered_cred (dossier_at d.now o).creds (literals_of s.now v) (said_of s.now l) x }
 {
     if among(s, l.creds, l.ncreds, x) {
         return true;
@@ -304,7 +304,7 @@ fn credentials_covered(
     m: LiteralAt,
 ) -> bool
     requires { Laid d.now o × CredStarts d.now o creds.now × LiteralsFit s.now v × Held s.now l × Held s.now m }
-    ensures { result ≡ all (coveredCred (dossierAt d.now o).creds (literalsOf s.now v) (said_of s.now l)) (said_of s.now m).creds }
+    ensures { result ≡ all (covered_cred (dossier_at d.now o).creds (literals_of s.now v) (said_of s.now l)) (said_of s.now m).creds }
 {
     let mut at = m.creds;
     let mut left = m.ncreds;
@@ -387,7 +387,7 @@ fn gives(v: Tri, b: bool) -> bool
 
 // The value of a statement whose literal is false.
 fn opposite(positive: bool) -> Tri
-    ensures { result ≡ triOf (some (not positive)) }
+    ensures { result ≡ tri_of (some (not positive)) }
 {
     if positive { Tri::No } else { Tri::Yes }
 }
@@ -395,7 +395,7 @@ fn opposite(positive: bool) -> Tri
 // The value of the statement of l, a literal in t.
 fn supposed_at(s: &[u16], v: LineAt, t: &[u16], l: LiteralAt) -> Tri
     requires { LiteralsFit s.now v × Held t.now l }
-    ensures { result ≡ triOf (supposed (literalsOf s.now v) (said_of t.now l)) }
+    ensures { result ≡ tri_of (supposed (literals_of s.now v) (said_of t.now l)) }
 {
     let mut at = v.literals;
     let mut left = v.count;
@@ -413,7 +413,7 @@ fn supposed_at(s: &[u16], v: LineAt, t: &[u16], l: LiteralAt) -> Tri
 // The value of the atom x given the n credentials of d from q on.
 fn atom_value(s: &[u16], v: LineAt, d: &[u16], q: usize, n: usize, x: usize) -> Tri
     requires { LiteralsFit s.now v × (q + n ≤ length d.now) }
-    ensures { result ≡ (supposing (literalsOf s.now v) (part d.now q n)).atom x }
+    ensures { result ≡ (supposing (literals_of s.now v) (part d.now q n)).atom x }
 {
     let l = LiteralAt {
         positive: true,
@@ -430,8 +430,8 @@ fn atom_value(s: &[u16], v: LineAt, d: &[u16], q: usize, n: usize, x: usize) -> 
 // The value of the formula of d at `at`, which is at most `deep` deep, given the n credentials of d from q on.
 fn value_at(d: &[u16], at: usize, deep: usize, q: usize, n: usize, s: &[u16], v: LineAt) -> ValueAt
     requires { ((m : ℕ) × FormulaFits m deep d.now at) × (q + n ≤ length d.now) × LiteralsFit s.now v }
-    ensures { (result.value ≡ read (supposing (literalsOf s.now v) (part d.now q n)) (formulaAt deep d.now at))
-        × (result.next ≡ formulaEnd deep d.now at) }
+    ensures { (result.value ≡ read (supposing (literals_of s.now v) (part d.now q n)) (formula_at deep d.now at))
+        × (result.next ≡ formula_end deep d.now at) }
 {
     let x = word(d, at);
     if x < 256 {
@@ -467,7 +467,7 @@ fn value_at(d: &[u16], at: usize, deep: usize, q: usize, n: usize, s: &[u16], v:
 // Whether the formula of the entry at q has the value b.
 fn entry_gives(d: &[u16], q: usize, s: &[u16], v: LineAt, b: bool) -> bool
     requires { ((entry_at d.now q).next ≤ length d.now) × ((m : ℕ) × FormulaFits m 16 d.now (entry_at d.now q).formula) × LiteralsFit s.now v }
-    ensures { result ≡ (value (literalsOf s.now v) (entry_of d.now (entry_at d.now q)).creds (entry_of d.now (entry_at d.now q)).formula gives b) }
+    ensures { result ≡ (value (literals_of s.now v) (entry_of d.now (entry_at d.now q)).creds (entry_of d.now (entry_at d.now q)).formula gives b) }
 {
     let e = entry_at(d, q);
     let x = value_at(d, e.formula, 16, e.creds, e.count, s, v);
@@ -489,7 +489,7 @@ fn probe_follows(
     i: usize,
 ) -> bool
     requires { Laid d.now o × ProbeStarts d.now o probes.now × (o.nprobes ≤ length answers.now) × Told d.now o answers.now × LiteralsFit s.now v }
-    ensures { (e : List Line) → result ≡ follows (dossierAt d.now o) e (literalsOf s.now v) (Rule.probe i) }
+    ensures { (e : List Line) → result ≡ follows (dossier_at d.now o) e (literals_of s.now v) (Rule.probe i) }
 {
     let Found::At(q) = pick(probes, o.nprobes, i) else {
         return false;
@@ -499,8 +499,8 @@ fn probe_follows(
 
 // Rule 2. It shows that the secret has the value `goal`, the one that it has in the dossier's policy.
 fn secret_follows(d: &[u16], o: Layout, goal: bool, s: &[u16], v: LineAt) -> bool
-    requires { Laid d.now o × (goal ≡ aim (dossierAt d.now o)) × LiteralsFit s.now v }
-    ensures { (e : List Line) → result ≡ follows (dossierAt d.now o) e (literalsOf s.now v) Rule.secret }
+    requires { Laid d.now o × (goal ≡ aim (dossier_at d.now o)) × LiteralsFit s.now v }
+    ensures { (e : List Line) → result ≡ follows (dossier_at d.now o) e (literals_of s.now v) Rule.secret }
 {
     entry_gives(d, o.secret, s, v, goal)
 }
@@ -508,7 +508,7 @@ fn secret_follows(d: &[u16], o: Layout, goal: bool, s: &[u16], v: LineAt) -> boo
 // Whether l is positive on the head of c, and each body atom has a negative literal that shares with l.
 fn clause_fires(d: &[u16], c: ClauseAt, s: &[u16], v: LineAt, l: LiteralAt) -> bool
     requires { BodyFits d.now c × LiteralsFit s.now v × Held s.now l }
-    ensures { result ≡ fires (literalsOf s.now v) (clauseOf d.now c) (literalOf s.now l) }
+    ensures { result ≡ fires (literals_of s.now v) (clause_of d.now c) (literal_of s.now l) }
 {
     if l.positive {
         if l.atom == c.head {
@@ -529,7 +529,7 @@ fn clause_follows(
     j: usize,
 ) -> bool
     requires { Laid d.now o × ClauseStarts d.now o clauses.now × LiteralsFit s.now v }
-    ensures { (e : List Line) → result ≡ follows (dossierAt d.now o) e (literalsOf s.now v) (Rule.clause i j) }
+    ensures { (e : List Line) → result ≡ follows (dossier_at d.now o) e (literals_of s.now v) (Rule.clause i j) }
 {
     let Found::At(q) = pick(clauses, o.nclauses, i) else {
         return false;
@@ -544,7 +544,7 @@ fn clause_follows(
 // Tests them.
 fn clause_holds(d: &[u16], m: MarkedAt, s: &[u16], v: LineAt, l: LiteralAt) -> bool
     requires { BodyFits d.now m.clause × LiteralsFit s.now v × Held s.now l }
-    ensures { result ≡ (m.visible and fires (literalsOf s.now v) (clauseOf d.now m.clause) (literalOf s.now l)) }
+    ensures { result ≡ (m.visible and fires (literals_of s.now v) (clause_of d.now m.clause) (literal_of s.now l)) }
 {
     if m.visible {
         let c = m.clause;
@@ -556,7 +556,7 @@ fn clause_holds(d: &[u16], m: MarkedAt, s: &[u16], v: LineAt, l: LiteralAt) -> b
 // Rule 4: finds literal j, and tests it.
 fn assumed_follows(s: &[u16], v: LineAt, j: usize) -> bool
     requires { LiteralsFit s.now v }
-    ensures { (D : Dossier) (e : List Line) → result ≡ follows D e (literalsOf s.now v) (Rule.assumed j) }
+    ensures { (D : Dossier) (e : List Line) → result ≡ follows D e (literals_of s.now v) (Rule.assumed j) }
 {
     let LiteralFound::Is(l) = literal_nth(s, v, j) else {
         return false;
@@ -578,7 +578,7 @@ fn credential_follows(
     j: usize,
 ) -> bool
     requires { Laid d.now o × CredStarts d.now o creds.now × LiteralsFit s.now v }
-    ensures { (e : List Line) → result ≡ follows (dossierAt d.now o) e (literalsOf s.now v) (Rule.credential i j) }
+    ensures { (e : List Line) → result ≡ follows (dossier_at d.now o) e (literals_of s.now v) (Rule.credential i j) }
 {
     let Found::At(q) = pick(creds, o.ncreds, i) else {
         return false;
@@ -593,7 +593,7 @@ fn credential_follows(
 // Tests them.
 fn credential_holds(d: &[u16], c: ClauseAt, i: usize, s: &[u16], v: LineAt, l: LiteralAt) -> bool
     requires { BodyFits d.now c × LiteralsFit s.now v × Held s.now l }
-    ensures { result ≡ (mem i (said_of s.now l).creds and fires (literalsOf s.now v) (clauseOf d.now c) (literalOf s.now l)) }
+    ensures { result ≡ (mem i (said_of s.now l).creds and fires (literals_of s.now v) (clause_of d.now c) (literal_of s.now l)) }
 {
     if among(s, l.creds, l.ncreds, i) {
         return clause_fires(d, c, s, v, l);
@@ -612,7 +612,7 @@ fn cut_follows(
     i: usize,
 ) -> bool
     requires { Laid d.now o × CredStarts d.now o creds.now × LiteralsFit s.now v }
-    ensures { (e : List Line) → result ≡ follows (dossierAt d.now o) e (literalsOf s.now v) (Rule.cut j i) }
+    ensures { (e : List Line) → result ≡ follows (dossier_at d.now o) e (literals_of s.now v) (Rule.cut j i) }
 {
     let LiteralFound::Is(l) = literal_nth(s, v, j) else {
         return false;
@@ -629,7 +629,7 @@ fn cut_follows(
 // Tests all but the credentials.
 fn cut_holds(s: &[u16], v: LineAt, l: LiteralAt, m: LiteralAt) -> bool
     requires { LiteralsFit s.now v × Held s.now l × Held s.now m }
-    ensures { result ≡ cuts (literalsOf s.now v) (literalOf s.now l) (literalOf s.now m) }
+    ensures { result ≡ cuts (literals_of s.now v) (literal_of s.now l) (literal_of s.now m) }
 {
     if m.positive {
         return false;
@@ -655,7 +655,7 @@ fn without_follows(
     k: usize,
 ) -> bool
     requires { Laid d.now o × CredStarts d.now o creds.now × LiteralsFit s.now v }
-    ensures { (e : List Line) → result ≡ follows (dossierAt d.now o) e (literalsOf s.now v) (Rule.without c i j k) }
+    ensures { (e : List Line) → result ≡ follows (dossier_at d.now o) e (literals_of s.now v) (Rule.without c i j k) }
 {
     let Found::At(q) = pick(creds, o.ncreds, c) else {
         return false;
@@ -684,7 +684,7 @@ fn without_holds(
     h: LiteralAt,
 ) -> bool
     requires { BodyFits d.now b × Held s.now m × Held s.now l × Held s.now h }
-    ensures { result ≡ withouts (clauseOf d.now b) c (literalOf s.now m) (literalOf s.now l) (literalOf s.now h) }
+    ensures { result ≡ withouts (clause_of d.now b) c (literal_of s.now m) (literal_of s.now l) (literal_of s.now h) }
 {
     if m.positive {
         return false;
@@ -705,7 +705,7 @@ fn without_holds(
 // Whether l is positive, with m's atoms and with m's credentials without c.
 fn claims_without(s: &[u16], m: LiteralAt, c: usize, l: LiteralAt) -> bool
     requires { Held s.now m × Held s.now l }
-    ensures { result ≡ claims (omit c (said_of s.now m).creds) (said_of s.now m).atoms (literalOf s.now l) }
+    ensures { result ≡ claims (omit c (said_of s.now m).creds) (said_of s.now m).atoms (literal_of s.now l) }
 {
     if l.positive {
         if same_without(s, l.creds, l.ncreds, m.creds, m.ncreds, c) {
@@ -727,7 +727,7 @@ fn resolve_follows(
     j: usize,
 ) -> bool
     requires { LineStarts s.now n lines.now × Fit line s.now 2 n × LiteralsFit s.now v }
-    ensures { (D : Dossier) → result ≡ follows D (many line s.now 2 n) (literalsOf s.now v) (Rule.resolve u w i j) }
+    ensures { (D : Dossier) → result ≡ follows D (many line s.now 2 n) (literals_of s.now v) (Rule.resolve u w i j) }
 {
     let Found::At(p) = pick(lines, n, u) else {
         return false;
@@ -743,8 +743,8 @@ fn resolve_follows(
 // Finds literal i of a and literal j of b, p and q here.
 fn resolve_lines(s: &[u16], v: LineAt, a: LineAt, i: usize, b: LineAt, j: usize) -> bool
     requires { LiteralsFit s.now v × LiteralsFit s.now a × LiteralsFit s.now b }
-    ensures { result ≡ (named (at (literalsOf s.now a) i) λ p. named (at (literalsOf s.now b) j) λ q.
-        resolves (literalsOf s.now v) (literalsOf s.now a) i p (literalsOf s.now b) j q) }
+    ensures { result ≡ (named (at (literals_of s.now a) i) λ p. named (at (literals_of s.now b) j) λ q.
+        resolves (literals_of s.now v) (literals_of s.now a) i p (literals_of s.now b) j q) }
 {
     let LiteralFound::Is(p) = literal_nth(s, a, i) else {
         return false;
@@ -767,7 +767,7 @@ fn resolve_holds(
     q: LiteralAt,
 ) -> bool
     requires { LiteralsFit s.now v × LiteralsFit s.now a × Held s.now p × LiteralsFit s.now b × Held s.now q }
-    ensures { result ≡ resolves (literalsOf s.now v) (literalsOf s.now a) i (literalOf s.now p) (literalsOf s.now b) j (literalOf s.now q) }
+    ensures { result ≡ resolves (literals_of s.now v) (literals_of s.now a) i (literal_of s.now p) (literals_of s.now b) j (literal_of s.now q) }
 {
     if q.positive {
         return false;
@@ -794,8 +794,8 @@ fn plain_follows(
     s: &[u16],
     v: LineAt,
 ) -> bool
-    requires { Ready d.now o clauses.now creds.now probes.now answers.now goal × LiteralsFit s.now v × (v.args + dataCount v.rule ≤ length s.now) × (0 < v.rule) × (v.rule < 7) }
-    ensures { (e : List Line) → result ≡ follows (dossierAt d.now o) e (literalsOf s.now v) (ruleOf s.now v.rule v.args) }
+    requires { Ready d.now o clauses.now creds.now probes.now answers.now goal × LiteralsFit s.now v × (v.args + data_count v.rule ≤ length s.now) × (0 < v.rule) × (v.rule < 7) }
+    ensures { (e : List Line) → result ≡ follows (dossier_at d.now o) e (literals_of s.now v) (rule_of s.now v.rule v.args) }
 {
     let x = v.rule;
     let a = v.args;
@@ -829,8 +829,8 @@ fn wide_follows(
     n: usize,
     v: LineAt,
 ) -> bool
-    requires { Laid d.now o × CredStarts d.now o creds.now × LineStarts s.now n lines.now × Fit line s.now 2 n × LiteralsFit s.now v × (v.args + dataCount v.rule ≤ length s.now) × (7 ≤ v.rule) }
-    ensures { result ≡ follows (dossierAt d.now o) (many line s.now 2 n) (literalsOf s.now v) (ruleOf s.now v.rule v.args) }
+    requires { Laid d.now o × CredStarts d.now o creds.now × LineStarts s.now n lines.now × Fit line s.now 2 n × LiteralsFit s.now v × (v.args + data_count v.rule ≤ length s.now) × (7 ≤ v.rule) }
+    ensures { result ≡ follows (dossier_at d.now o) (many line s.now 2 n) (literals_of s.now v) (rule_of s.now v.rule v.args) }
 {
     let x = v.rule;
     let a = v.args;
@@ -859,7 +859,7 @@ pub fn line_follows(
     q: usize,
 ) -> bool
     requires { Ready d.now o clauses.now creds.now probes.now answers.now goal × Starts (line.next s.now) 2 n lines.now × Fit line s.now 2 n × LineFits s.now q }
-    ensures { result ≡ follows (dossierAt d.now o) (many line s.now 2 n)
+    ensures { result ≡ follows (dossier_at d.now o) (many line s.now 2 n)
         (line_of s.now (line_at s.now q)).literals (line_of s.now (line_at s.now q)).rule }
 {
     let v = line_at(s, q);

@@ -5,19 +5,19 @@ use Rattle.meaning.specs.Policy.{round, after, holds}
 use Rattle.meaning.specs.Formula.{read, pick, chosen, joined, given, truth}
 use Rattle.meaning.specs.Papers.{policy, visible, answer, witness, proof}
 use Rattle.meaning.specs.Looks.{aim}
-use Rattle.meaning.specs.Rules.{sameStatement, supposed, not₃, and₃, or₃, value, ◌gives◌, isIn, denied, fires, claims, omit, others, follows, earlier, lineFollows}
-use Rattle.meaning.specs.Verdict.{opaque, detectable, tried, probeAgrees, lastEmpty, decide, judge}
-use Rattle.meaning.specs.Example.{clauseOf, entry_of, exampleWith, t1, t2, t3, literal, line, factTwo, p}
+use Rattle.meaning.specs.Rules.{same_statement, supposed, not₃, and₃, or₃, value, ◌gives◌, is_in, denied, fires, claims, omit, others, follows, earlier, line_follows}
+use Rattle.meaning.specs.Verdict.{opaque, detectable, tried, probe_agrees, last_empty, decide, judge}
+use Rattle.meaning.specs.Example.{clause_of, entry_of, example_with, t1, t2, t3, literal, line, fact_two, p}
 
 -- all that the judge's outcome computes through
 unfoldable pub compute : Unit {0}
-unfolding ◌and◌ ◌or◌ agree ◌is◌ same all any put keep mem at named choose lowest round after holds read pick chosen joined given truth policy visible answer aim sameStatement supposed not₃ and₃ or₃ value ◌gives◌ isIn denied fires claims omit others follows earlier lineFollows tried probeAgrees lastEmpty decide judge clauseOf entry_of exampleWith t1 t2 t3 literal line factTwo p
+unfolding ◌and◌ ◌or◌ agree ◌is◌ same all any put keep mem at named choose lowest round after holds read pick chosen joined given truth policy visible answer aim same_statement supposed not₃ and₃ or₃ value ◌gives◌ is_in denied fires claims omit others follows earlier line_follows tried probe_agrees last_empty decide judge clause_of entry_of example_with t1 t2 t3 literal line fact_two p
 compute = tt
 
-pub proof-example : judge t1 (proof p) ≡ detectable
+pub proof_example : judge t1 (proof p) ≡ detectable
 unfolding compute
-proof-example = refl
+proof_example = refl
 
-pub witness-example : judge t2 (witness factTwo) ≡ opaque
+pub witness_example : judge t2 (witness fact_two) ≡ opaque
 unfolding compute
-witness-example = refl
+witness_example = refl

@@ -13,10 +13,10 @@ use Rattle.meaning.specs.Policy.{Clause, Policy}
 use Rattle.meaning.specs.Formula.{Formula, always, atom, neg, conj, disj, read, pick, chosen, joined, given, truth}
 use Rattle.meaning.specs.Papers.{Entry, Marked, Dossier, policy, visible, answer, Literal, Rule, Line}
 use Rattle.meaning.specs.Looks.{aim}
-use Rattle.meaning.specs.Rules.{denied, follows, earlier, lineFollows}
+use Rattle.meaning.specs.Rules.{denied, follows, earlier, line_follows}
 use Rattle.meaning.specs.Extends.{MoreVisible, done, next, Extends, WellNamed}
 use Rattle.meaning.specs.Demands.{ExtensionKeeps}
-use Rattle.meaning.proofs.Tests.{and_both, and-of, or_cases, or_left, or_right, named-at, named-of, all-at, all_of, keep_at, keep-of, map_at, map_of, at_mem, mem_index, at-append}
+use Rattle.meaning.proofs.Tests.{and_both, and_of, or_cases, or_left, or_right, named_at_lem, named_of, all_at, all_of, keep_at, keep_of, map_at, map_of, at_mem, mem_index, at_append}
 
 -- ---- more credentials do not change what those named give
 
@@ -32,38 +32,38 @@ module _ (cs ds : List Clause) where
   chosen_more [] h = refl
   chosen_more (i ∷ S) h = ap₂ {C = List Clause} pick (at_more cs ds i (h i (Memᴰ.head refl))) (chosen_more S (λ j m. h j (Memᴰ.tail m)))
 
-  truth-more : (P : Policy) (S : List ℕ) → ((i : ℕ) → i ∈ S → i < length cs) → (f : Formula) → truth (cs ++ ds) P S f ≡ truth cs P S f
+  truth_more : (P : Policy) (S : List ℕ) → ((i : ℕ) → i ∈ S → i < length cs) → (f : Formula) → truth (cs ++ ds) P S f ≡ truth cs P S f
   unfolding truth read given joined
-  truth-more P S h always = refl
-  truth-more P S h (atom a) = rw (chosen_more S h)
-  truth-more P S h (neg f) = ap not (truth-more P S h f)
-  truth-more P S h (conj f g) = ap₂ ◌and◌ (truth-more P S h f) (truth-more P S h g)
-  truth-more P S h (disj f g) = ap₂ ◌or◌ (truth-more P S h f) (truth-more P S h g)
+  truth_more P S h always = refl
+  truth_more P S h (atom a) = rw (chosen_more S h)
+  truth_more P S h (neg f) = ap not (truth_more P S h f)
+  truth_more P S h (conj f g) = ap₂ ◌and◌ (truth_more P S h f) (truth_more P S h g)
+  truth_more P S h (disj f g) = ap₂ ◌or◌ (truth_more P S h f) (truth_more P S h g)
 
 -- ---- marks
 
-marks-policy : {l m : List Marked} → MoreVisible l m → map (λ (x : Marked). x.clause) m ≡ map (λ (x : Marked). x.clause) l
-marks-policy done = refl
-marks-policy (next e f r) = ap₂ {C = List Clause} ◌∷◌ (sym e) (marks-policy r)
+marks_policy : {l m : List Marked} → MoreVisible l m → map (λ (x : Marked). x.clause) m ≡ map (λ (x : Marked). x.clause) l
+marks_policy done = refl
+marks_policy (next e f r) = ap₂ {C = List Clause} ◌∷◌ (sym e) (marks_policy r)
 
-marks-at : {l m : List Marked} → MoreVisible l m → (i : ℕ) {x : Marked} → at l i ≡ some x → (y : Marked) × (at m i ≡ some y) × (x.clause ≡ y.clause) × (x.visible ≡ true → y.visible ≡ true)
+marks_at : {l m : List Marked} → MoreVisible l m → (i : ℕ) {x : Marked} → at l i ≡ some x → (y : Marked) × (at m i ≡ some y) × (x.clause ≡ y.clause) × (x.visible ≡ true → y.visible ≡ true)
 unfolding at
-marks-at done i h = absurd (true≢false (cc))
-marks-at (next {a = a} {b = b} e f r) zero {x} h = let z : a ≡ x = cc in (b, refl, rw (← z) e, rw (← z) f)
-marks-at (next e f r) (suc i) h = marks-at r i h
+marks_at done i h = absurd (true≢false (cc))
+marks_at (next {a = a} {b = b} e f r) zero {x} h = let z : a ≡ x = cc in (b, refl, rw (← z) e, rw (← z) f)
+marks_at (next e f r) (suc i) h = marks_at r i h
 
 -- ---- D and E
 
 module _ (D E : Dossier) (x : Extends D E) where
-  creds-up : (i : ℕ) {c : Clause} → at D.creds i ≡ some c → at E.creds i ≡ some c
-  creds-up i h = rw x.creds (at-append D.creds x.newCreds i h)
+  creds_up : (i : ℕ) {c : Clause} → at D.creds i ≡ some c → at E.creds i ≡ some c
+  creds_up i h = rw x.creds (at_append D.creds x.new_creds i h)
 
-  probes-up : (k : ℕ) {e : Entry} → at D.probes k ≡ some e → at E.probes k ≡ some e
-  probes-up k h = rw x.probes (at-append D.probes x.newProbes k h)
+  probes_up : (k : ℕ) {e : Entry} → at D.probes k ≡ some e → at E.probes k ≡ some e
+  probes_up k h = rw x.probes (at_append D.probes x.new_probes k h)
 
-  pub policy-same : policy E ≡ policy D
+  pub policy_same : policy E ≡ policy D
   unfolding policy
-  policy-same = marks-policy x.marks
+  policy_same = marks_policy x.marks
 
   visible_up : (c : Clause) → c ∈ visible D → c ∈ visible E
   unfolding visible
@@ -71,60 +71,60 @@ module _ (D E : Dossier) (x : Extends D E) where
       let (a, n, e) = map_at (λ (y : Marked). y.clause) _ m in
       let (there, v) = keep_at (λ (y : Marked). y.visible) _ n in
       let (i, _, h) = mem_index there in
-      let (b, k, f, up) = marks-at x.marks i h in
-      rw (e ∙ f) (map_of (λ (y : Marked). y.clause) (keep-of (λ (y : Marked). y.visible) (at_mem _ i k) (up v)))
+      let (b, k, f, up) = marks_at x.marks i h in
+      rw (e ∙ f) (map_of (λ (y : Marked). y.clause) (keep_of (λ (y : Marked). y.visible) (at_mem _ i k) (up v)))
 
-pub extension-keeps : ExtensionKeeps
-extension-keeps =
+pub extension_keeps_lem : ExtensionKeeps
+extension_keeps_lem =
     record {
       labels = λ D E x. x.labels;
-      policy = policy-same;
+      policy = policy_same;
       secret = λ D E x. x.secret;
       visible = visible_up;
-      credential = λ D E x i c h. creds-up D E x i h;
-      probe = λ D E x k e h. probes-up D E x k h;
+      credential = λ D E x i c h. creds_up D E x i h;
+      probe = λ D E x k e h. probes_up D E x k h;
     }
 
 module _ (D E : Dossier) (x : Extends D E) (named-creds : WellNamed D) where
-  pub answer-same : (P : Policy) (e : Entry) → e ∈ (D.secret ∷ D.probes) → answer E P e ≡ answer D P e
+  pub answer_same : (P : Policy) (e : Entry) → e ∈ (D.secret ∷ D.probes) → answer E P e ≡ answer D P e
   unfolding answer WellNamed
-  answer-same P e m = rw x.creds (truth-more D.creds x.newCreds P e.creds (named-creds e m) e.formula)
+  answer_same P e m = rw x.creds (truth_more D.creds x.new_creds P e.creds (named-creds e m) e.formula)
 
   pub aim_same : aim E ≡ aim D
   unfolding aim
-  aim_same = ap₂ (answer E) (policy-same D E x) x.secret ∙ answer-same (policy D) D.secret (Memᴰ.head refl)
+  aim_same = ap₂ (answer E) (policy_same D E x) x.secret ∙ answer_same (policy D) D.secret (Memᴰ.head refl)
 
-  follows-up : (before : List Line) (ls : List Literal) (r : Rule) → follows D before ls r ≡ true → follows E before ls r ≡ true
+  follows_up : (before : List Line) (ls : List Literal) (r : Rule) → follows D before ls r ≡ true → follows E before ls r ≡ true
   unfolding follows
-  follows-up before ls (Rule.probe k) h =
-      let (e, ee, v) = named-at _ _ h in
-      named-of _ (probes-up D E x k ee) (rw (policy-same D E x, answer-same (policy D) e (Memᴰ.tail (at_mem _ _ ee))) v)
-  follows-up before ls Rule.secret h = rw (aim_same, x.secret) h
-  follows-up before ls (Rule.clause i j) h =
-      let (m, em, g) = named-at _ _ h in
-      let (l, el, v) = named-at _ _ g in
+  follows_up before ls (Rule.probe k) h =
+      let (e, ee, v) = named_at_lem _ _ h in
+      named_of _ (probes_up D E x k ee) (rw (policy_same D E x, answer_same (policy D) e (Memᴰ.tail (at_mem _ _ ee))) v)
+  follows_up before ls Rule.secret h = rw (aim_same, x.secret) h
+  follows_up before ls (Rule.clause i j) h =
+      let (m, em, g) = named_at_lem _ _ h in
+      let (l, el, v) = named_at_lem _ _ g in
       let q = and_both v in
-      let (n, en, c, up) = marks-at x.marks i em in
-      named-of _ en (named-of _ el (and-of (up q.0) (rw (← c) q.1)))
-  follows-up before ls (Rule.assumed j) h = h
-  follows-up before ls (Rule.credential c j) h =
-      let (d, ed, g) = named-at _ _ h in
-      named-of _ (creds-up D E x c ed) g
-  follows-up before ls (Rule.cut j i) h =
-      let (l, el, g) = named-at _ _ h in
-      let (m, em, v) = named-at _ _ g in
+      let (n, en, c, up) = marks_at x.marks i em in
+      named_of _ en (named_of _ el (and_of (up q.0) (rw (← c) q.1)))
+  follows_up before ls (Rule.assumed j) h = h
+  follows_up before ls (Rule.credential c j) h =
+      let (d, ed, g) = named_at_lem _ _ h in
+      named_of _ (creds_up D E x c ed) g
+  follows_up before ls (Rule.cut j i) h =
+      let (l, el, g) = named_at_lem _ _ h in
+      let (m, em, v) = named_at_lem _ _ g in
       let q = and_both v in
-      named-of _ el (named-of _ em (and-of q.0 (all_of _ m.said.creds λ c n. covered l c (or_cases (all-at _ _ q.1 n)))))
+      named_of _ el (named_of _ em (and_of q.0 (all_of _ m.said.creds λ c n. covered l c (or_cases (all_at _ _ q.1 n)))))
     where
       covered : (l : Literal) (c : ℕ) → (mem c l.said.creds ≡ true) ⊎ (named (at D.creds c) (λ d. denied ls l.said d.head) ≡ true)
           → mem c l.said.creds or named (at E.creds c) (λ d. denied ls l.said d.head) ≡ true
       covered l c (inl p) = or_left _ p
-      covered l c (inr p) = let (d, ed, v) = named-at _ _ p in or_right _ (named-of _ (creds-up D E x c ed) v)
-  follows-up before ls (Rule.without c i j k) h =
-      let (d, ed, g) = named-at _ _ h in
-      named-of _ (creds-up D E x c ed) g
-  follows-up before ls (Rule.resolve u v i j) h = h
+      covered l c (inr p) = let (d, ed, v) = named_at_lem _ _ p in or_right _ (named_of _ (creds_up D E x c ed) v)
+  follows_up before ls (Rule.without c i j k) h =
+      let (d, ed, g) = named_at_lem _ _ h in
+      named_of _ (creds_up D E x c ed) g
+  follows_up before ls (Rule.resolve u v i j) h = h
 
-  pub line-up : (lines : List Line) (k : ℕ) → lineFollows D lines k ≡ true → lineFollows E lines k ≡ true
-  unfolding lineFollows
-  line-up lines k h = let (l, e, f) = named-at _ _ h in named-of _ e (follows-up (earlier lines k) l.literals l.rule f)
+  pub line_up : (lines : List Line) (k : ℕ) → line_follows D lines k ≡ true → line_follows E lines k ≡ true
+  unfolding line_follows
+  line_up lines k h = let (l, e, f) = named_at_lem _ _ h in named_of _ e (follows_up (earlier lines k) l.literals l.rule f)

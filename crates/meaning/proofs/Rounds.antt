@@ -10,7 +10,7 @@ use native.Mathlib.Decide.{ℕ_discrete}
 use lib.ListN.{length, length-map}
 use Rattle.meaning.specs.Tests.{◌∈◌, ◌and◌, ◌is◌, all, any}
 use Rattle.meaning.specs.Policy.{Clause, Policy, round, after, Holds, holds, Derivable, derived}
-use Rattle.meaning.proofs.Tests.{cases, clash, together, and_both, and-of, or_cases, or_left, or_right, is→≡, is-refl, all-at, all_of, any_at, any_of, map_of}
+use Rattle.meaning.proofs.Tests.{cases, clash, together, and_both, and_of, or_cases, or_left, or_right, is→≡, is_refl, all_at, all_of, any_at, any_of, map_of}
 
 -- the atoms of a set
 abbrev pub In : (ℕ → Bool) → ℕ → Type 0
@@ -27,27 +27,27 @@ module _ (P : Policy) (X : ℕ → Bool) where
   unfolding round
   round_keeps a h = or_left _ h
 
-  pub round-adds : {c : Clause} → c ∈ P → all X c.body ≡ true → In (round P X) c.head
+  pub round_adds : {c : Clause} → c ∈ P → all X c.body ≡ true → In (round P X) c.head
   unfolding round
-  round-adds {c} m h = or_right _ (any_of _ m (and-of (is-refl c.head) h))
+  round_adds {c} m h = or_right _ (any_of _ m (and_of (is_refl c.head) h))
 
   -- what has X and is closed under P where X has the body, has the round
-  pub round-least : (M : ℕ → Type 0) → ((a : ℕ) → In X a → M a) → ((c : Clause) → c ∈ P → ((b : ℕ) → b ∈ c.body → In X b) → M c.head) → (a : ℕ) → In (round P X) a → M a
+  pub round_least : (M : ℕ → Type 0) → ((a : ℕ) → In X a → M a) → ((c : Clause) → c ∈ P → ((b : ℕ) → b ∈ c.body → In X b) → M c.head) → (a : ℕ) → In (round P X) a → M a
   unfolding round
-  round-least M f g a h = go (or_cases h)
+  round_least M f g a h = go (or_cases h)
     where
       go : (X a ≡ true) ⊎ (any (λ (c : Clause). a is c.head and all X c.body) P ≡ true) → M a
       go (inl e) = f a e
-      go (inr e) = let (c, m, t) = any_at _ P e in let q = and_both t in rw (is→≡ q.0) (g c m (λ b n. all-at _ _ q.1 n))
+      go (inr e) = let (c, m, t) = any_at _ P e in let q = and_both t in rw (is→≡ q.0) (g c m (λ b n. all_at _ _ q.1 n))
 
-  closed-round : ClosedIn (In X) P → ClosedIn (In (round P X)) P
+  closed_round : ClosedIn (In X) P → ClosedIn (In (round P X)) P
   unfolding ClosedIn
-  closed-round f c m g = round_keeps c.head (f c m λ b n. round-least (In X) (λ a h. h) f b (g b n))
+  closed_round f c m g = round_keeps c.head (f c m λ b n. round_least (In X) (λ a h. h) f b (g b n))
 
-after-least : (M : ℕ → Type 0) (P : Policy) → ClosedIn M P → (k a : ℕ) → In (after P k) a → M a
+after_least : (M : ℕ → Type 0) (P : Policy) → ClosedIn M P → (k a : ℕ) → In (after P k) a → M a
 unfolding after ClosedIn
-after-least M P h zero a e = absurd (false≢true e)
-after-least M P h (suc k) a e = round-least P (after P k) M (after-least M P h k) (λ c m f. h c m λ b n. after-least M P h k b (f b n)) a e
+after_least M P h zero a e = absurd (false≢true e)
+after_least M P h (suc k) a e = round_least P (after P k) M (after_least M P h k) (λ c m f. h c m λ b n. after_least M P h k b (f b n)) a e
 
 -- ---- a set is closed, or a clause would still add its head
 
@@ -79,48 +79,48 @@ count : (ℕ → Bool) → List ℕ → ℕ
 count X [] = 0
 count X (u ∷ U) = bump (X u) (count X U)
 
-bump-le : (b : Bool) (n : ℕ) → bump b n ≤ suc n
+bump_le : (b : Bool) (n : ℕ) → bump b n ≤ suc n
 unfolding bump
-bump-le true n = omega arith
-bump-le false n = omega arith
+bump_le true n = omega arith
+bump_le false n = omega arith
 
-bump-mono : (b d : Bool) (m n : ℕ) → (b ≡ true → d ≡ true) → m ≤ n → bump b m ≤ bump d n
+bump_mono : (b d : Bool) (m n : ℕ) → (b ≡ true → d ≡ true) → m ≤ n → bump b m ≤ bump d n
 unfolding bump
-bump-mono true true m n f h = omega arith
-bump-mono true false m n f h = absurd (false≢true (f refl))
-bump-mono false true m n f h = omega arith
-bump-mono false false m n f h = h
+bump_mono true true m n f h = omega arith
+bump_mono true false m n f h = absurd (false≢true (f refl))
+bump_mono false true m n f h = omega arith
+bump_mono false false m n f h = h
 
-bump-full : (b : Bool) (m n : ℕ) → suc m ≤ bump b n → n ≤ m → b ≡ true
+bump_full : (b : Bool) (m n : ℕ) → suc m ≤ bump b n → n ≤ m → b ≡ true
 unfolding bump
-bump-full true m n h k = refl
-bump-full false m n h k = absurd (omega arith)
+bump_full true m n h k = refl
+bump_full false m n h k = absurd (omega arith)
 
-bump-suc : (b : Bool) (n : ℕ) → bump b (suc n) ≡ suc (bump b n)
+bump_suc : (b : Bool) (n : ℕ) → bump b (suc n) ≡ suc (bump b n)
 unfolding bump
-bump-suc true n = refl
-bump-suc false n = refl
+bump_suc true n = refl
+bump_suc false n = refl
 
-count-le : (X : ℕ → Bool) (U : List ℕ) → count X U ≤ length U
+count_le : (X : ℕ → Bool) (U : List ℕ) → count X U ≤ length U
 unfolding count
-count-le X [] = zero-le
-count-le X (u ∷ U) = let h = count-le X U in let k = bump-le (X u) (count X U) in omega arith
+count_le X [] = zero-le
+count_le X (u ∷ U) = let h = count_le X U in let k = bump_le (X u) (count X U) in omega arith
 
 module _ (X Y : ℕ → Bool) (f : (a : ℕ) → In X a → In Y a) where
-  count-mono : (U : List ℕ) → count X U ≤ count Y U
+  count_mono : (U : List ℕ) → count X U ≤ count Y U
   unfolding count
-  count-mono [] = zero-le
-  count-mono (u ∷ U) = bump-mono (X u) (Y u) (count X U) (count Y U) (f u) (count-mono U)
+  count_mono [] = zero-le
+  count_mono (u ∷ U) = bump_mono (X u) (Y u) (count X U) (count Y U) (f u) (count_mono U)
 
-  count-more : (U : List ℕ) {u : ℕ} → u ∈ U → X u ≡ false → Y u ≡ true → count X U < count Y U
+  count_more : (U : List ℕ) {u : ℕ} → u ∈ U → X u ≡ false → Y u ≡ true → count X U < count Y U
   unfolding count bump
-  count-more (v ∷ U) (Memᴰ.head e) p q = let h = count-mono U in rw (← e) (rw (p, q) (omega arith))
-  count-more (v ∷ U) (Memᴰ.tail m) p q = rw (← (bump-suc (X v) (count X U))) (bump-mono (X v) (Y v) (suc (count X U)) (count Y U) (f v) (count-more U m p q))
+  count_more (v ∷ U) (Memᴰ.head e) p q = let h = count_mono U in rw (← e) (rw (p, q) (omega arith))
+  count_more (v ∷ U) (Memᴰ.tail m) p q = rw (← (bump_suc (X v) (count X U))) (bump_mono (X v) (Y v) (suc (count X U)) (count Y U) (f v) (count_more U m p q))
 
-count-full : (X : ℕ → Bool) (U : List ℕ) {u : ℕ} → length U ≤ count X U → u ∈ U → X u ≡ true
+count_full : (X : ℕ → Bool) (U : List ℕ) {u : ℕ} → length U ≤ count X U → u ∈ U → X u ≡ true
 unfolding count
-count-full X (v ∷ U) h (Memᴰ.head e) = rw e (bump-full (X v) (length U) (count X U) h (count-le X U))
-count-full X (v ∷ U) h (Memᴰ.tail m) = let k = bump-le (X v) (count X U) in count-full X U (omega arith) m
+count_full X (v ∷ U) h (Memᴰ.head e) = rw e (bump_full (X v) (length U) (count X U) h (count_le X U))
+count_full X (v ∷ U) h (Memᴰ.tail m) = let k = bump_le (X v) (count X U) in count_full X U (omega arith) m
 
 -- ---- after as many rounds as there are possible heads nothing is added
 
@@ -131,9 +131,9 @@ module _ (P : Policy) (U : List ℕ) (heads : (c : Clause) → c ∈ P → c.hea
   settle (suc k) = go (closed? P (after P k)) (settle k)
     where
       go : ClosedIn (In (after P k)) P ⊎ Adds P (after P k) → ClosedIn (In (after P k)) P ⊎ (k ≤ count (after P k) U) → ClosedIn (In (round P (after P k))) P ⊎ (suc k ≤ count (round P (after P k)) U)
-      go (inl c) s = inl (closed-round P (after P k) c)
-      go (inr r) (inl c) = inl (closed-round P (after P k) c)
-      go (inr (c, m, t, q)) (inr h) = let g = count-more (after P k) (round P (after P k)) (round_keeps P (after P k)) U (heads c m) q (round-adds P (after P k) m t) in inr (omega arith)
+      go (inl c) s = inl (closed_round P (after P k) c)
+      go (inr r) (inl c) = inl (closed_round P (after P k) c)
+      go (inr (c, m, t, q)) (inr h) = let g = count_more (after P k) (round P (after P k)) (round_keeps P (after P k)) U (heads c m) q (round_adds P (after P k) m t) in inr (omega arith)
 
   settled : (k : ℕ) → length U ≤ k → ClosedIn (In (after P k)) P
   unfolding ClosedIn
@@ -141,31 +141,31 @@ module _ (P : Policy) (U : List ℕ) (heads : (c : Clause) → c ∈ P → c.hea
     where
       go : ClosedIn (In (after P k)) P ⊎ (k ≤ count (after P k) U) → after P k c.head ≡ true
       go (inl f) = f c m r
-      go (inr g) = count-full (after P k) U (omega arith) (heads c m)
+      go (inr g) = count_full (after P k) U (omega arith) (heads c m)
 
 -- ---- what holds is the least closed set, and `holds` tests it
 
-pub holds-closed : (P : Policy) → ClosedIn (In (holds P)) P
+pub holds_closed : (P : Policy) → ClosedIn (In (holds P)) P
 unfolding holds
-holds-closed P = settled P (map (λ (c : Clause). c.head) P) (λ c m. map_of (λ (d : Clause). d.head) m) (length P) (omega (arith, length-map P (λ (c : Clause). c.head)))
+holds_closed P = settled P (map (λ (c : Clause). c.head) P) (λ c m. map_of (λ (d : Clause). d.head) m) (length P) (omega (arith, length-map P (λ (c : Clause). c.head)))
 
-pub holds-least : (M : ℕ → Type 0) (P : Policy) → ClosedIn M P → (a : ℕ) → holds P a ≡ true → M a
+pub holds_least : (M : ℕ → Type 0) (P : Policy) → ClosedIn M P → (a : ℕ) → holds P a ≡ true → M a
 unfolding holds
-holds-least M P h a e = after-least M P h (length P) a e
+holds_least M P h a e = after_least M P h (length P) a e
 
-pub holds-tested : (P : Policy) (a : ℕ) → Holds P a ↔ (holds P a ≡ true)
+pub holds_tested_lem : (P : Policy) (a : ℕ) → Holds P a ↔ (holds P a ≡ true)
 unfolding Holds holds
-holds-tested P a = (λ h. after-least (In (holds P)) P (holds-closed P) h.0 a h.1, λ h. (length P, h))
+holds_tested_lem P a = (λ h. after_least (In (holds P)) P (holds_closed P) h.0 a h.1, λ h. (length P, h))
 
 -- rounds that are closed give what holds
-closed-holds : (P : Policy) (k : ℕ) → ClosedIn (In (after P k)) P → (a : ℕ) → holds P a ≡ after P k a
+closed_holds : (P : Policy) (k : ℕ) → ClosedIn (In (after P k)) P → (a : ℕ) → holds P a ≡ after P k a
 unfolding Holds
-closed-holds P k f a = together (holds-least (In (after P k)) P f a) (λ h. (holds-tested P a).0 (k, h))
+closed_holds P k f a = together (holds_least (In (after P k)) P f a) (λ h. (holds_tested_lem P a).0 (k, h))
 
 -- As soon as a round adds no head, what is there is what holds.
-pub stop-early : (P : Policy) (k : ℕ) → ((c : Clause) → c ∈ P → after P (suc k) c.head ≡ after P k c.head) → (a : ℕ) → holds P a ≡ after P k a
+pub stop_early : (P : Policy) (k : ℕ) → ((c : Clause) → c ∈ P → after P (suc k) c.head ≡ after P k c.head) → (a : ℕ) → holds P a ≡ after P k a
 unfolding ClosedIn after
-stop-early P k same a = closed-holds P k (λ c m h. sym (same c m) ∙ round-adds P (after P k) m (all_of _ c.body h)) a
+stop_early P k same a = closed_holds P k (λ c m h. sym (same c m) ∙ round_adds P (after P k) m (all_of _ c.body h)) a
 
 -- ---- with heads below n
 
@@ -173,10 +173,10 @@ below : ℕ → List ℕ
 below zero = []
 below (suc n) = n ∷ below n
 
-length-below : (n : ℕ) → length (below n) ≡ n
+length_below : (n : ℕ) → length (below n) ≡ n
 unfolding below
-length-below zero = refl
-length-below (suc n) = ap suc (length-below n)
+length_below zero = refl
+length_below (suc n) = ap suc (length_below n)
 
 mem_below : (n a : ℕ) → a < n → a ∈ below n
 unfolding below
@@ -187,15 +187,15 @@ mem_below (suc n) a h = go (ℕ_discrete a n) (λ k. mem_below n a k)
     go (yes e) ih = Memᴰ.head e
     go (no ne) ih = Memᴰ.tail (ih (omega arith))
 
-pub rounds-holds : (n k : ℕ) (P : Policy) → ((c : Clause) → c ∈ P → c.head < n) → n ≤ k → (a : ℕ) → holds P a ≡ after P k a
-rounds-holds n k P h le a = closed-holds P k (settled P (below n) (λ c m. mem_below n c.head (h c m)) k (omega (arith, length-below n))) a
+pub rounds_holds : (n k : ℕ) (P : Policy) → ((c : Clause) → c ∈ P → c.head < n) → n ≤ k → (a : ℕ) → holds P a ≡ after P k a
+rounds_holds n k P h le a = closed_holds P k (settled P (below n) (λ c m. mem_below n c.head (h c m)) k (omega (arith, length_below n))) a
 
 -- ---- derivable
 
-derivable-holds : (P : Policy) {a : ℕ} → Derivable P a → holds P a ≡ true
+derivable_holds : (P : Policy) {a : ℕ} → Derivable P a → holds P a ≡ true
 unfolding ClosedIn
-derivable-holds P (derived c m e f) = rw e (holds-closed P c m (λ b n. derivable-holds P (f b n)))
+derivable_holds P (derived c m e f) = rw e (holds_closed P c m (λ b n. derivable_holds P (f b n)))
 
-pub holds-derived : (P : Policy) (a : ℕ) → Holds P a ↔ Derivable P a
+pub holds_derived_lem : (P : Policy) (a : ℕ) → Holds P a ↔ Derivable P a
 unfolding ClosedIn
-holds-derived P a = (λ h. holds-least (Derivable P) P (λ c m f. derived c m refl f) a ((holds-tested P a).0 h), λ d. (holds-tested P a).1 (derivable-holds P d))
+holds_derived_lem P a = (λ h. holds_least (Derivable P) P (λ c m f. derived c m refl f) a ((holds_tested_lem P a).0 h), λ d. (holds_tested_lem P a).1 (derivable_holds P d))

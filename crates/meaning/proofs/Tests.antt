@@ -21,19 +21,19 @@ cases false = inr refl
 pub clash {ℓ} : {C : Type ℓ} {b : Bool} → b ≡ true → b ≡ false → C
 clash p q = absurd (true≢false (sym p ∙ q))
 
-pub not-true : (b : Bool) → not b ≡ true → b ≡ false
-not-true true h = absurd (false≢true h)
-not-true false h = refl
+pub not_true : (b : Bool) → not b ≡ true → b ≡ false
+not_true true h = absurd (false≢true h)
+not_true false h = refl
 
-pub not-self : (b : Bool) → b ≡ not b → ⊥
-not-self true h = true≢false h
-not-self false h = false≢true h
+pub not_self : (b : Bool) → b ≡ not b → ⊥
+not_self true h = true≢false h
+not_self false h = false≢true h
 
-pub not-opposite : (a b : Bool) → (a ≡ not b → ⊥) → a ≡ b
-not-opposite true true f = refl
-not-opposite true false f = absurd (f refl)
-not-opposite false true f = absurd (f refl)
-not-opposite false false f = refl
+pub not_opposite : (a b : Bool) → (a ≡ not b → ⊥) → a ≡ b
+not_opposite true true f = refl
+not_opposite true false f = absurd (f refl)
+not_opposite false true f = absurd (f refl)
+not_opposite false false f = refl
 
 -- two Bools that are true together are one
 pub together : {a b : Bool} → (a ≡ true → b ≡ true) → (b ≡ true → a ≡ true) → a ≡ b
@@ -46,17 +46,17 @@ unfolding ◌and◌
 and_both {a = true} {b} h = (refl, h)
 and_both {a = false} {b} h = absurd (false≢true h)
 
-pub and-five : {a b c d e : Bool} → a and b and c and d and e ≡ true → (a ≡ true) × (b ≡ true) × (c ≡ true) × (d ≡ true) × (e ≡ true)
-and-five h =
+pub and_five : {a b c d e : Bool} → a and b and c and d and e ≡ true → (a ≡ true) × (b ≡ true) × (c ≡ true) × (d ≡ true) × (e ≡ true)
+and_five h =
     let p = and_both h in
     let q = and_both p.0 in
     let r = and_both q.0 in
     let s = and_both r.0 in
     (s.0, s.1, r.1, q.1, p.1)
 
-pub and-of : {a b : Bool} → a ≡ true → b ≡ true → a and b ≡ true
+pub and_of : {a b : Bool} → a ≡ true → b ≡ true → a and b ≡ true
 unfolding ◌and◌
-and-of {a} {b} p q = rw (p, q)
+and_of {a} {b} p q = rw (p, q)
 
 pub or_cases : {a b : Bool} → a or b ≡ true → (a ≡ true) ⊎ (b ≡ true)
 unfolding ◌or◌
@@ -75,18 +75,18 @@ or_right false {b} p = p
 pub agree→≡ : {a b : Bool} → agree a b ≡ true → a ≡ b
 unfolding agree
 agree→≡ {a = true} {b} h = sym h
-agree→≡ {a = false} {b} h = sym (not-true b h)
+agree→≡ {a = false} {b} h = sym (not_true b h)
 
 pub agree_of : {a b : Bool} → a ≡ b → agree a b ≡ true
 unfolding agree
 agree_of {a = true} {b} h = sym h
 agree_of {a = false} {b} h = rw (← h)
 
-pub agree-not : (a b : Bool) → agree a b ≡ false → b ≡ not a
+pub agree_not : (a b : Bool) → agree a b ≡ false → b ≡ not a
 unfolding agree
-agree-not true b h = h
-agree-not false true h = refl
-agree-not false false h = absurd (true≢false h)
+agree_not true b h = h
+agree_not false true h = refl
+agree_not false false h = absurd (true≢false h)
 
 -- ---- numbers and lists of numbers
 
@@ -94,9 +94,9 @@ pub is→≡ : {m n : ℕ} → m is n ≡ true → m ≡ n
 unfolding ◌is◌
 is→≡ {m} {n} h = eqb→eq m n (subst T (sym h) tt)
 
-pub is-refl : (n : ℕ) → n is n ≡ true
+pub is_refl : (n : ℕ) → n is n ≡ true
 unfolding ◌is◌
-is-refl n = go (eqb n n) refl (eqb_refl n)
+is_refl n = go (eqb n n) refl (eqb_refl n)
   where
     go : (b : Bool) → eqb n n ≡ b → T b → eqb n n ≡ true
     go true e t = e
@@ -112,20 +112,20 @@ same→≡ {l = x ∷ l} {m = y ∷ m} h = let r = and_both h in ap₂ {C = List
 pub same_refl : (l : List ℕ) → same l l ≡ true
 unfolding same
 same_refl [] = refl
-same_refl (x ∷ l) = and-of (is-refl x) (same_refl l)
+same_refl (x ∷ l) = and_of (is_refl x) (same_refl l)
 
 -- ---- elements
 
 module _ {A : Type 0} where
-  pub all-at : (p : A → Bool) (l : List A) → all p l ≡ true → {x : A} → x ∈ l → p x ≡ true
+  pub all_at : (p : A → Bool) (l : List A) → all p l ≡ true → {x : A} → x ∈ l → p x ≡ true
   unfolding all
-  all-at p l h (Memᴰ.head e) = ap p e ∙ (and_both h).0
-  all-at p l h (Memᴰ.tail {xs = r} m) = all-at p r (and_both h).1 m
+  all_at p l h (Memᴰ.head e) = ap p e ∙ (and_both h).0
+  all_at p l h (Memᴰ.tail {xs = r} m) = all_at p r (and_both h).1 m
 
   pub all_of : (p : A → Bool) (l : List A) → ((x : A) → x ∈ l → p x ≡ true) → all p l ≡ true
   unfolding all
   all_of p [] f = refl
-  all_of p (x ∷ l) f = and-of (f x (Memᴰ.head refl)) (all_of p l (λ y m. f y (Memᴰ.tail m)))
+  all_of p (x ∷ l) f = and_of (f x (Memᴰ.head refl)) (all_of p l (λ y m. f y (Memᴰ.tail m)))
 
   pub any_at : (p : A → Bool) (l : List A) → any p l ≡ true → (x : A) × x ∈ l × (p x ≡ true)
   unfolding any
@@ -142,22 +142,22 @@ module _ {A : Type 0} where
   any_of p (Memᴰ.tail m) h = or_right _ (any_of p m h)
 
   -- what no element passes
-  pub none-at : (p : A → Bool) {l : List A} {x : A} → any p l ≡ false → x ∈ l → p x ≡ false
-  none-at p {l} {x} h m = go (cases (p x))
+  pub none_at : (p : A → Bool) {l : List A} {x : A} → any p l ≡ false → x ∈ l → p x ≡ false
+  none_at p {l} {x} h m = go (cases (p x))
     where
       go : (p x ≡ true) ⊎ (p x ≡ false) → p x ≡ false
       go (inl e) = clash (any_of p m e) h
       go (inr e) = e
 
-  put-there : (b : Bool) (x : A) {y : A} {l : List A} → y ∈ l → y ∈ put b x l
+  put_there : (b : Bool) (x : A) {y : A} {l : List A} → y ∈ l → y ∈ put b x l
   unfolding put
-  put-there true x m = Memᴰ.tail m
-  put-there false x m = m
+  put_there true x m = Memᴰ.tail m
+  put_there false x m = m
 
-  pub keep-of : (p : A → Bool) {l : List A} {x : A} → x ∈ l → p x ≡ true → x ∈ keep p l
+  pub keep_of : (p : A → Bool) {l : List A} {x : A} → x ∈ l → p x ≡ true → x ∈ keep p l
   unfolding keep put
-  keep-of p {x} (Memᴰ.head {x = y} e) h = rw (ap p (sym e) ∙ h) (Memᴰ.head e)
-  keep-of p (Memᴰ.tail {x = y} m) h = put-there (p y) y (keep-of p m h)
+  keep_of p {x} (Memᴰ.head {x = y} e) h = rw (ap p (sym e) ∙ h) (Memᴰ.head e)
+  keep_of p (Memᴰ.tail {x = y} m) h = put_there (p y) y (keep_of p m h)
 
   pub keep_at : (p : A → Bool) (l : List A) {x : A} → x ∈ keep p l → x ∈ l × (p x ≡ true)
   unfolding keep put
@@ -171,18 +171,18 @@ module _ {A : Type 0} where
 
   -- ---- element i
 
-  pub named-at : (o : Option A) (f : A → Bool) → named o f ≡ true → (x : A) × (o ≡ some x) × (f x ≡ true)
+  pub named_at_lem : (o : Option A) (f : A → Bool) → named o f ≡ true → (x : A) × (o ≡ some x) × (f x ≡ true)
   unfolding named
-  named-at none f h = absurd (false≢true h)
-  named-at (some x) f h = (x, refl, h)
+  named_at_lem none f h = absurd (false≢true h)
+  named_at_lem (some x) f h = (x, refl, h)
 
-  pub named-of : {o : Option A} (f : A → Bool) {x : A} → o ≡ some x → f x ≡ true → named o f ≡ true
+  pub named_of : {o : Option A} (f : A → Bool) {x : A} → o ≡ some x → f x ≡ true → named o f ≡ true
   unfolding named
-  named-of f e h = rw e h
+  named_of f e h = rw e h
 
-  pub named-is : {o : Option A} (f : A → Bool) {x : A} → o ≡ some x → named o f ≡ f x
+  pub named_is : {o : Option A} (f : A → Bool) {x : A} → o ≡ some x → named o f ≡ f x
   unfolding named
-  named-is f e = rw e
+  named_is f e = rw e
 
   pub at_mem : (l : List A) (i : ℕ) {x : A} → at l i ≡ some x → x ∈ l
   unfolding at
@@ -195,11 +195,11 @@ module _ {A : Type 0} where
   mem_index (Memᴰ.head e) = (0, omega arith, ap {B = Option A} some (sym e))
   mem_index (Memᴰ.tail m) = let r = mem_index m in (suc r.0, omega (arith, r.1), r.2)
 
-  pub at-below : (l : List A) (i : ℕ) {x : A} → at l i ≡ some x → i < length l
+  pub at_below : (l : List A) (i : ℕ) {x : A} → at l i ≡ some x → i < length l
   unfolding at
-  at-below [] i h = absurd (true≢false (cc))
-  at-below (y ∷ l) zero h = omega arith
-  at-below (y ∷ l) (suc i) h = let r = at-below l i h in omega arith
+  at_below [] i h = absurd (true≢false (cc))
+  at_below (y ∷ l) zero h = omega arith
+  at_below (y ∷ l) (suc i) h = let r = at_below l i h in omega arith
 
   pub below_at : (l : List A) (i : ℕ) → i < length l → (x : A) × (at l i ≡ some x)
   unfolding at
@@ -207,11 +207,11 @@ module _ {A : Type 0} where
   below_at (y ∷ l) zero h = (y, refl)
   below_at (y ∷ l) (suc i) h = below_at l i (omega arith)
 
-  pub at-append : (l m : List A) (i : ℕ) {x : A} → at l i ≡ some x → at (l ++ m) i ≡ some x
+  pub at_append : (l m : List A) (i : ℕ) {x : A} → at l i ≡ some x → at (l ++ m) i ≡ some x
   unfolding at
-  at-append [] m i h = absurd (true≢false (cc))
-  at-append (y ∷ l) m zero h = h
-  at-append (y ∷ l) m (suc i) h = at-append l m i h
+  at_append [] m i h = absurd (true≢false (cc))
+  at_append (y ∷ l) m zero h = h
+  at_append (y ∷ l) m (suc i) h = at_append l m i h
 
   pub at_take : (k : ℕ) (l : List A) (i : ℕ) {x : A} → at (take k l) i ≡ some x → (i < k) × (at l i ≡ some x)
   unfolding at
@@ -230,9 +230,9 @@ module _ {A B : Type 0} (f : A → B) where
   map_at (x ∷ l) (Memᴰ.head e) = (x, Memᴰ.head refl, e)
   map_at (x ∷ l) (Memᴰ.tail m) = let r = map_at l m in (r.0, Memᴰ.tail r.1, r.2)
 
-pub mem-at : {a : ℕ} {l : List ℕ} → mem a l ≡ true → a ∈ l
+pub mem_at : {a : ℕ} {l : List ℕ} → mem a l ≡ true → a ∈ l
 unfolding mem
-mem-at {a} {l} h = let r = any_at _ l h in subst (λ (x : ℕ). x ∈ l) (sym (is→≡ r.2)) r.1
+mem_at {a} {l} h = let r = any_at _ l h in subst (λ (x : ℕ). x ∈ l) (sym (is→≡ r.2)) r.1
 
 -- ---- the lowest that fails
 
@@ -242,10 +242,10 @@ module _ (p : ℕ → Bool) where
   Found k n none = (j : ℕ) → k ≤ j → j < k + n → p j ≡ true
   Found k n (some i) = (k ≤ i) × (i < k + n) × (p i ≡ false) × ((j : ℕ) → k ≤ j → j < i → p j ≡ true)
 
-  pub lowest-found : (k n : ℕ) → Found k n (lowest p k n)
+  pub lowest_found : (k n : ℕ) → Found k n (lowest p k n)
   unfolding lowest Found choose
-  lowest-found k zero = λ j a b. absurd (omega arith)
-  lowest-found k (suc n) = go (p k) refl (lowest p (suc k) n) (lowest-found (suc k) n)
+  lowest_found k zero = λ j a b. absurd (omega arith)
+  lowest_found k (suc n) = go (p k) refl (lowest p (suc k) n) (lowest_found (suc k) n)
     where
       from : p k ≡ true → (m : ℕ) → ((j : ℕ) → suc k ≤ j → j < m → p j ≡ true) → (j : ℕ) → k ≤ j → j < m → p j ≡ true
       from e m f j a b = here (ℕ_discrete j k)
@@ -260,12 +260,12 @@ module _ (p : ℕ → Bool) where
       go true e (some i) f = (omega (arith, f.0), omega (arith, f.1), f.2, from e i f.3)
 
   -- and only one answer says it
-  pub found-once : (k n : ℕ) (o u : Option ℕ) → Found k n o → Found k n u → o ≡ u
+  pub found_once : (k n : ℕ) (o u : Option ℕ) → Found k n o → Found k n u → o ≡ u
   unfolding Found
-  found-once k n none none f g = refl
-  found-once k n none (some i) f g = clash (f i g.0 g.1) g.2
-  found-once k n (some i) none f g = clash (g i f.0 f.1) f.2
-  found-once k n (some i) (some j) f g = go (dec_lt i j) (dec_lt j i)
+  found_once k n none none f g = refl
+  found_once k n none (some i) f g = clash (f i g.0 g.1) g.2
+  found_once k n (some i) none f g = clash (g i f.0 f.1) f.2
+  found_once k n (some i) (some j) f g = go (dec_lt i j) (dec_lt j i)
     where
       go : Dec (i < j) → Dec (j < i) → some i ≡ some j
       go (yes h) r = clash (g.3 i f.0 h) f.2

@@ -11,8 +11,8 @@ use Rattle.meaning.specs.Policy.{Clause, Policy, fact}
 use Rattle.meaning.specs.Formula.{Formula, always, atom, neg, conj, disj, read, pick, chosen, joined, Given, given, Truth, truth}
 use Rattle.meaning.specs.Papers.{Entry, Dossier, Yes, answer}
 use Rattle.meaning.specs.Looks.{Value}
-use Rattle.meaning.proofs.Tests.{clash, not-self, not-opposite, together, and_both, and-of, or_cases, or_left, or_right, map_of, map_at}
-use Rattle.meaning.proofs.Rounds.{ClosedIn, holds-tested}
+use Rattle.meaning.proofs.Tests.{clash, not_self, not_opposite, together, and_both, and_of, or_cases, or_left, or_right, map_of, map_at}
+use Rattle.meaning.proofs.Rounds.{ClosedIn, holds_tested_lem}
 
 -- ---- the test of truth
 
@@ -20,15 +20,15 @@ use Rattle.meaning.proofs.Rounds.{ClosedIn, holds-tested}
 abbrev Tests : Bool → Type 0 → Type 0
 Tests b A = A ↔ (b ≡ true)
 
-tests-not : (b : Bool) {A : Type 0} → Tests b A → Tests (not b) (A → ⊥)
-tests-not true t = (λ h. absurd (h (t.1 refl)), λ h. absurd (false≢true h))
-tests-not false t = (λ h. refl, λ h a. false≢true (t.0 a))
+tests_not : (b : Bool) {A : Type 0} → Tests b A → Tests (not b) (A → ⊥)
+tests_not true t = (λ h. absurd (h (t.1 refl)), λ h. absurd (false≢true h))
+tests_not false t = (λ h. refl, λ h a. false≢true (t.0 a))
 
-tests-and : {a b : Bool} {A B : Type 0} → Tests a A → Tests b B → Tests (a and b) (A × B)
-tests-and s t = (λ m. and-of (s.0 m.0) (t.0 m.1), λ h. let q = and_both h in (s.1 q.0, t.1 q.1))
+tests_and : {a b : Bool} {A B : Type 0} → Tests a A → Tests b B → Tests (a and b) (A × B)
+tests_and s t = (λ m. and_of (s.0 m.0) (t.0 m.1), λ h. let q = and_both h in (s.1 q.0, t.1 q.1))
 
-tests-or : {a b : Bool} {A B : Type 0} → Tests a A → Tests b B → Tests (a or b) (A ⊎ B)
-tests-or {a} {b} {A} {B} s t = (to, λ h. from (or_cases h))
+tests_or : {a b : Bool} {A B : Type 0} → Tests a A → Tests b B → Tests (a or b) (A ⊎ B)
+tests_or {a} {b} {A} {B} s t = (to, λ h. from (or_cases h))
   where
     to : A ⊎ B → a or b ≡ true
     to (inl m) = or_left _ (s.0 m)
@@ -38,40 +38,40 @@ tests-or {a} {b} {A} {B} s t = (to, λ h. from (or_cases h))
     from (inl e) = inl (s.1 e)
     from (inr e) = inr (t.1 e)
 
-pub truth-tested : (cs : List Clause) (P : Policy) (S : List ℕ) (f : Formula) → Truth cs P S f ↔ (truth cs P S f ≡ true)
+pub truth_tested_lem : (cs : List Clause) (P : Policy) (S : List ℕ) (f : Formula) → Truth cs P S f ↔ (truth cs P S f ≡ true)
 unfolding Truth truth read Given given
-truth-tested cs P S always = (λ _. refl, λ _. tt)
-truth-tested cs P S (atom a) = holds-tested (joined cs P S []) a
-truth-tested cs P S (neg f) = tests-not _ (truth-tested cs P S f)
-truth-tested cs P S (conj f g) = tests-and (truth-tested cs P S f) (truth-tested cs P S g)
-truth-tested cs P S (disj f g) = tests-or (truth-tested cs P S f) (truth-tested cs P S g)
+truth_tested_lem cs P S always = (λ _. refl, λ _. tt)
+truth_tested_lem cs P S (atom a) = holds_tested_lem (joined cs P S []) a
+truth_tested_lem cs P S (neg f) = tests_not _ (truth_tested_lem cs P S f)
+truth_tested_lem cs P S (conj f g) = tests_and (truth_tested_lem cs P S f) (truth_tested_lem cs P S g)
+truth_tested_lem cs P S (disj f g) = tests_or (truth_tested_lem cs P S f) (truth_tested_lem cs P S g)
 
 -- ---- answers
 
 -- what b tests has the value that b is
-pub value-test : {A : Type 0} {b : Bool} → Tests b A → (v : Bool) → Value v A ↔ (b ≡ v)
+pub value_test : {A : Type 0} {b : Bool} → Tests b A → (v : Bool) → Value v A ↔ (b ≡ v)
 unfolding Value
-value-test t true = t
-value-test t false = (λ h. sym (together (λ z. absurd (false≢true z)) (λ z. absurd (h (t.1 z)))), λ h y. clash (t.0 y) h)
+value_test t true = t
+value_test t false = (λ h. sym (together (λ z. absurd (false≢true z)) (λ z. absurd (h (t.1 z)))), λ h y. clash (t.0 y) h)
 
 module _ (D : Dossier) where
-  pub yes-tested : (P : Policy) (e : Entry) → Yes D P e ↔ (answer D P e ≡ true)
+  pub yes_tested : (P : Policy) (e : Entry) → Yes D P e ↔ (answer D P e ≡ true)
   unfolding Yes answer
-  yes-tested P e = truth-tested D.creds P e.creds e.formula
+  yes_tested P e = truth_tested_lem D.creds P e.creds e.formula
 
-  pub value-tested : (P : Policy) (e : Entry) (b : Bool) → Value b (Yes D P e) ↔ (answer D P e ≡ b)
-  value-tested P e = value-test (yes-tested P e)
+  pub value_tested : (P : Policy) (e : Entry) (b : Bool) → Value b (Yes D P e) ↔ (answer D P e ≡ b)
+  value_tested P e = value_test (yes_tested P e)
 
-  pub alike-tested : (P Q : Policy) (e : Entry) → (Yes D P e ↔ Yes D Q e) ↔ (answer D Q e ≡ answer D P e)
-  alike-tested P Q e = (
-    λ h. together (λ z. (yes-tested P e).0 (h.1 ((yes-tested Q e).1 z))) (λ z. (yes-tested Q e).0 (h.0 ((yes-tested P e).1 z))),
-    λ h. (λ y. (yes-tested Q e).1 (h ∙ (yes-tested P e).0 y), λ y. (yes-tested P e).1 (sym h ∙ (yes-tested Q e).0 y)),
+  pub alike_tested : (P Q : Policy) (e : Entry) → (Yes D P e ↔ Yes D Q e) ↔ (answer D Q e ≡ answer D P e)
+  alike_tested P Q e = (
+    λ h. together (λ z. (yes_tested P e).0 (h.1 ((yes_tested Q e).1 z))) (λ z. (yes_tested Q e).0 (h.0 ((yes_tested P e).1 z))),
+    λ h. (λ y. (yes_tested Q e).1 (h ∙ (yes_tested P e).0 y), λ y. (yes_tested P e).1 (sym h ∙ (yes_tested Q e).0 y)),
   )
 
-  pub unlike-tested : (P Q : Policy) (e : Entry) → ((Yes D P e ↔ Yes D Q e) → ⊥) ↔ (answer D Q e ≡ not (answer D P e))
-  unlike-tested P Q e = (
-    λ f. not-opposite _ _ λ h. f ((alike-tested P Q e).1 (h ∙ not-not (answer D P e))),
-    λ h y. not-self (answer D P e) (sym ((alike-tested P Q e).0 y) ∙ h),
+  pub unlike_tested : (P Q : Policy) (e : Entry) → ((Yes D P e ↔ Yes D Q e) → ⊥) ↔ (answer D Q e ≡ not (answer D P e))
+  unlike_tested P Q e = (
+    λ f. not_opposite _ _ λ h. f ((alike_tested P Q e).1 (h ∙ not-not (answer D P e))),
+    λ h y. not_self (answer D P e) (sym ((alike_tested P Q e).0 y) ∙ h),
   )
 
 -- ---- the joined policy
@@ -96,22 +96,22 @@ chosen_of cs (j ∷ S) {d} (Memᴰ.tail m) h = there (at cs j) (chosen_of cs S m
     there (some c) n = Memᴰ.tail n
 
 module _ (cs : List Clause) (P : Policy) (S X : List ℕ) where
-  pub joined-policy : {c : Clause} → c ∈ P → c ∈ joined cs P S X
+  pub joined_policy : {c : Clause} → c ∈ P → c ∈ joined cs P S X
   unfolding joined
-  joined-policy m = Memᴰ.append_left (chosen cs S ++ map fact X) m
+  joined_policy m = Memᴰ.append_left (chosen cs S ++ map fact X) m
 
-  pub joined-cred : {i : ℕ} {c : Clause} → i ∈ S → at cs i ≡ some c → c ∈ joined cs P S X
+  pub joined_cred : {i : ℕ} {c : Clause} → i ∈ S → at cs i ≡ some c → c ∈ joined cs P S X
   unfolding joined
-  joined-cred m e = Memᴰ.append_right P (Memᴰ.append_left (map fact X) (chosen_of cs S m e))
+  joined_cred m e = Memᴰ.append_right P (Memᴰ.append_left (map fact X) (chosen_of cs S m e))
 
-  pub joined-fact : {x : ℕ} → x ∈ X → fact x ∈ joined cs P S X
+  pub joined_fact : {x : ℕ} → x ∈ X → fact x ∈ joined cs P S X
   unfolding joined
-  joined-fact m = Memᴰ.append_right P (Memᴰ.append_right (chosen cs S) (map_of fact m))
+  joined_fact m = Memᴰ.append_right P (Memᴰ.append_right (chosen cs S) (map_of fact m))
 
   -- what is closed under the policy, the credentials and the facts is closed under their join
-  pub joined-closed : (M : ℕ → Type 0) → ClosedIn M P → ((i : ℕ) (d : Clause) → i ∈ S → at cs i ≡ some d → ((b : ℕ) → b ∈ d.body → M b) → M d.head) → ((x : ℕ) → x ∈ X → M x) → ClosedIn M (joined cs P S X)
+  pub joined_closed : (M : ℕ → Type 0) → ClosedIn M P → ((i : ℕ) (d : Clause) → i ∈ S → at cs i ≡ some d → ((b : ℕ) → b ∈ d.body → M b) → M d.head) → ((x : ℕ) → x ∈ X → M x) → ClosedIn M (joined cs P S X)
   unfolding joined ClosedIn
-  joined-closed M p q r c m f = go (Memᴰ.append_cases P m)
+  joined_closed M p q r c m f = go (Memᴰ.append_cases P m)
     where
       last : c ∈ chosen cs S ⊎ c ∈ map fact X → M c.head
       last (inl n) = let k = chosen_at cs S n in q k.0 c k.1 k.2 f

@@ -2,13 +2,13 @@
 use Rattle.std.specs.Prelude.{◌≡◌, true, false, not, List, [], ◌↔◌, ◌⊎◌, ℕ, suc, ◌<◌, ◌≤◌, length}
 use Rattle.std.proofs.Math.Option.{some}
 use Rattle.meaning.specs.Tests.{◌∈◌, at}
-use Rattle.meaning.specs.Policy.{Clause, Policy, after, Holds, holds, firstRound, Derivable}
+use Rattle.meaning.specs.Policy.{Clause, Policy, after, Holds, holds, first_round, Derivable}
 use Rattle.meaning.specs.Formula.{Formula, Truth, truth}
 use Rattle.meaning.specs.Papers as papers
 use Rattle.meaning.specs.Papers.{Entry, Dossier, policy, Yes, answer, Rule, resolve, Line, Certificate, witness, proof}
 use Rattle.meaning.specs.Looks.{Has, Alike, LookTheSame, Detectable, Opaque, aim, Value, TrueLine}
-use Rattle.meaning.specs.Rules.{follows, lineFollows}
-use Rattle.meaning.specs.Verdict.{Outcome, opaque, detectable, probeDiffers, secretKept, lineFails, lastNotEmpty, tried, lastEmpty, judge, WitnessAccepted, ProofAccepted}
+use Rattle.meaning.specs.Rules.{follows, line_follows}
+use Rattle.meaning.specs.Verdict.{Outcome, opaque, detectable, probe_differs, secret_kept, line_fails, last_not_empty, tried, last_empty, judge, WitnessAccepted, ProofAccepted}
 use Rattle.meaning.specs.Extends.{Extends, WellNamed}
 
 -- k is the lowest number of which T is so
@@ -41,18 +41,18 @@ pub record FirstAdds (P : Policy) (c : Clause) (k : ℕ) : Type 0 where
 -- "for each atom, the number of the round that first adds it, 0 if none does" (A5)
 pub record FirstRounds : Type 0 where
   -- it is the least round that has the atom
-  pub least : (P : Policy) (a k : ℕ) → (firstRound P a ≡ suc k) ↔ Lowest (λ j. after P j a ≡ true) (suc k)
+  pub least : (P : Policy) (a k : ℕ) → (first_round P a ≡ suc k) ↔ Lowest (λ j. after P j a ≡ true) (suc k)
   -- and 0 where none has it: an atom holds exactly when its number is not 0
-  pub holding : (P : Policy) (a : ℕ) → Holds P a ↔ (firstRound P a ≡ 0 → ⊥)
+  pub holding : (P : Policy) (a : ℕ) → Holds P a ↔ (first_round P a ≡ 0 → ⊥)
   -- a fact's head has 1
-  pub facts : (P : Policy) (c : Clause) → c ∈ P → c.body ≡ [] → firstRound P c.head ≡ 1
+  pub facts : (P : Policy) (c : Clause) → c ∈ P → c.body ≡ [] → first_round P c.head ≡ 1
   -- with every head below n, it is at most n
-  pub limit : (n : ℕ) (P : Policy) → ((c : Clause) → c ∈ P → c.head < n) → (a : ℕ) → firstRound P a ≤ n
+  pub limit : (n : ℕ) (P : Policy) → ((c : Clause) → c ∈ P → c.head < n) → (a : ℕ) → first_round P a ≤ n
   -- a clause which first adds an atom in round k has its body atoms added before round k
   pub before : (P : Policy) (c : Clause) (k : ℕ) → FirstAdds P c k
-      → (firstRound P c.head ≡ suc k) × ((b : ℕ) → b ∈ c.body → (1 ≤ firstRound P b) × (firstRound P b < suc k))
+      → (first_round P c.head ≡ suc k) × ((b : ℕ) → b ∈ c.body → (1 ≤ first_round P b) × (first_round P b < suc k))
   -- and each atom that has a number is first added by such a clause
-  pub added : (P : Policy) (a k : ℕ) → firstRound P a ≡ suc k → (c : Clause) × (c.head ≡ a) × FirstAdds P c k
+  pub added : (P : Policy) (a k : ℕ) → first_round P a ≡ suc k → (c : Clause) × (c.head ≡ a) × FirstAdds P c k
 
 -- "A policy is a finite set of clauses": two that have each other's clauses
 pub record SameSet (P Q : Policy) : Type 0 where
@@ -63,7 +63,7 @@ pub record SameSet (P Q : Policy) : Type 0 where
 pub record PolicyIsSet : Type 0 where
   pub rounds : (P Q : Policy) → SameSet P Q → (k a : ℕ) → after P k a ≡ after Q k a
   pub holding : (P Q : Policy) → SameSet P Q → (a : ℕ) → Holds P a ↔ Holds Q a
-  pub first : (P Q : Policy) → SameSet P Q → (a : ℕ) → firstRound P a ≡ firstRound Q a
+  pub first : (P Q : Policy) → SameSet P Q → (a : ℕ) → first_round P a ≡ first_round Q a
   pub answers : (D : Dossier) (P Q : Policy) → SameSet P Q → (e : Entry) → Alike D e P Q
 
 -- The test `truth` is right.
@@ -97,10 +97,10 @@ Differs D W k = (e : Entry) × (at D.probes k ≡ some e) × (Alike D e (policy 
 
 -- line k does not follow
 abbrev pub Fails : Dossier → List Line → ℕ → Type 0
-Fails D lines k = (k < length lines) × (lineFollows D lines k ≡ false)
+Fails D lines k = (k < length lines) × (line_follows D lines k ≡ false)
 
 abbrev pub EachFollows : Dossier → List Line → Type 0
-EachFollows D lines = (k : ℕ) → k < length lines → lineFollows D lines k ≡ true
+EachFollows D lines = (k : ℕ) → k < length lines → line_follows D lines k ≡ true
 
 -- "with the visible clauses, it answers every probe as the dossier's policy does and" gives the secret "the opposite value" (A2); or the same
 abbrev pub Witnesses : Dossier → Policy → Type 0
@@ -111,25 +111,25 @@ KeepsSecret D W = LookTheSame D (policy D) (tried D W) × Alike D D.secret (poli
 
 -- "each line follows by its stated rule and the last is empty"; or it is not
 abbrev pub Proves : Dossier → List Line → Type 0
-Proves D lines = EachFollows D lines × (lastEmpty lines ≡ true)
+Proves D lines = EachFollows D lines × (last_empty lines ≡ true)
 
 abbrev pub EndsOpen : Dossier → List Line → Type 0
-EndsOpen D lines = EachFollows D lines × (lastEmpty lines ≡ false)
+EndsOpen D lines = EachFollows D lines × (last_empty lines ≡ false)
 
 -- When each outcome is given: the rows of 01's table, 14 to 17, and the two acceptances of demand 2.
 unfoldable pub When : Dossier → Certificate → Outcome → Type 0
 When D (witness W) opaque = Witnesses D W
-When D (witness W) (probeDiffers k) = Lowest (Differs D W) k
-When D (witness W) secretKept = KeepsSecret D W
+When D (witness W) (probe_differs k) = Lowest (Differs D W) k
+When D (witness W) secret_kept = KeepsSecret D W
 When D (witness W) detectable = ⊥
-When D (witness W) (lineFails k) = ⊥
-When D (witness W) lastNotEmpty = ⊥
+When D (witness W) (line_fails k) = ⊥
+When D (witness W) last_not_empty = ⊥
 When D (proof lines) detectable = Proves D lines
-When D (proof lines) (lineFails k) = Lowest (Fails D lines) k
-When D (proof lines) lastNotEmpty = EndsOpen D lines
+When D (proof lines) (line_fails k) = Lowest (Fails D lines) k
+When D (proof lines) last_not_empty = EndsOpen D lines
 When D (proof lines) opaque = ⊥
-When D (proof lines) (probeDiffers k) = ⊥
-When D (proof lines) secretKept = ⊥
+When D (proof lines) (probe_differs k) = ⊥
+When D (proof lines) secret_kept = ⊥
 
 abbrev pub Demand2 : Type 0
 Demand2 = (D : Dossier) (c : Certificate) (o : Outcome) → (judge D c ≡ o) ↔ When D c o
@@ -166,8 +166,8 @@ pub record Demand3 : Type 0 where
   -- "every policy of any length with D's visible clauses and D's probe answers": the secret "has the policy's value" (A2)
   pub every : (D : Dossier) (lines : List Line) → ProofAccepted D lines → Detectable D
   -- "the proof is accepted for E"
-  pub proofStays : (D E : Dossier) → Extends D E → WellNamed D → (lines : List Line) → ProofAccepted D lines → ProofAccepted E lines
+  pub proof_stays : (D E : Dossier) → Extends D E → WellNamed D → (lines : List Line) → ProofAccepted D lines → ProofAccepted E lines
   -- "and no witness is"
-  pub noWitness : (D E : Dossier) → Extends D E → WellNamed D → (lines : List Line) → ProofAccepted D lines → (W : Policy) → WitnessAccepted E W → ⊥
+  pub no_witness : (D E : Dossier) → Extends D E → WellNamed D → (lines : List Line) → ProofAccepted D lines → (W : Policy) → WitnessAccepted E W → ⊥
   -- "Where no mark differs, a witness accepted for E is accepted for D."
-  pub witnessStays : (D E : Dossier) → Extends D E → WellNamed D → E.clauses ≡ D.clauses → (W : Policy) → WitnessAccepted E W → WitnessAccepted D W
+  pub witness_stays : (D E : Dossier) → Extends D E → WellNamed D → E.clauses ≡ D.clauses → (W : Policy) → WitnessAccepted E W → WitnessAccepted D W

@@ -13,10 +13,10 @@ pub data MoreVisible : List Marked → List Marked → Type 0 where
 pub record Extends (D E : Dossier) : Type 0 where
   pub labels : E.labels ≡ D.labels
   pub marks : MoreVisible D.clauses E.clauses
-  pub newCreds : List Clause
-  pub creds : E.creds ≡ D.creds ++ newCreds
-  pub newProbes : List Entry
-  pub probes : E.probes ≡ D.probes ++ newProbes
+  pub new_creds : List Clause
+  pub creds : E.creds ≡ D.creds ++ new_creds
+  pub new_probes : List Entry
+  pub probes : E.probes ≡ D.probes ++ new_probes
   pub secret : E.secret ≡ D.secret
 
 -- All that demand 3 needs of "well formed": the entries of D name credentials that D has (else refusal 6).

@@ -42,8 +42,8 @@ unfoldable pub first_of : Policy → ℕ → ℕ → ℕ
 first_of P k a = or_zero (lowest (λ j. not (after P j a)) 1 k)
 
 -- and of all rounds: one that comes after as many as there are clauses adds nothing (`FirstRounds`)
-unfoldable pub firstRound : Policy → ℕ → ℕ
-firstRound P a = first_of P (length P) a
+unfoldable pub first_round : Policy → ℕ → ℕ
+first_round P a = first_of P (length P) a
 
 -- Derivable, as source document 000 says in formula (1) of its section II: a is the head of a clause of the policy whose
 -- body atoms are all derivable, and nothing else is. (A fact is a clause with an empty body, so it is derivable.)

@@ -10,13 +10,13 @@ use Rattle.meaning.specs.Looks.{aim}
 -- ---- "suppose each literal false": the value of a formula then, which may be unknown
 
 -- "Statements are one when all their numbers agree"
-unfoldable pub sameStatement : Statement → Statement → Bool
-sameStatement s t = same s.creds t.creds and same s.atoms t.atoms and s.atom is t.atom
+unfoldable pub same_statement : Statement → Statement → Bool
+same_statement s t = same s.creds t.creds and same s.atoms t.atoms and s.atom is t.atom
 
 -- the value of a statement when each literal is false; none: unknown
 unfoldable pub supposed : List Literal → Statement → Option Bool
 supposed [] s = none
-supposed (l ∷ ls) s = choose (sameStatement l.said s) (some (not l.positive)) (supposed ls s)
+supposed (l ∷ ls) s = choose (same_statement l.said s) (some (not l.positive)) (supposed ls s)
 
 -- "Not of unknown is unknown. And is false if either side is false, true if both are true, else unknown; or likewise the other way."
 unfoldable pub not₃ : Option Bool → Option Bool
@@ -46,12 +46,12 @@ none gives b = false
 -- ---- The rules
 
 -- l is in the line: the same sign and statement
-unfoldable pub isIn : List Literal → Literal → Bool
-isIn ls l = any (λ m. agree m.positive l.positive and sameStatement m.said l.said) ls
+unfoldable pub is_in : List Literal → Literal → Bool
+is_in ls l = any (λ m. agree m.positive l.positive and same_statement m.said l.said) ls
 
 -- atom b has a negative literal sharing with s ("the same credentials and atoms")
 unfoldable pub denied : List Literal → Statement → ℕ → Bool
-denied ls s b = isIn ls (record { positive = false; said = record { creds = s.creds; atoms = s.atoms; atom = b } })
+denied ls s b = is_in ls (record { positive = false; said = record { creds = s.creds; atoms = s.atoms; atom = b } })
 
 -- l is positive on the head of c, and each body atom has a negative literal sharing with l
 unfoldable pub fires : List Literal → Clause → Literal → Bool
@@ -101,16 +101,16 @@ follows D before ls (without c i j k) =
 follows D before ls (resolve u v i j) =
     named (at before u) λ a. named (at before v) λ b.
     named (at a.literals i) λ p. named (at b.literals j) λ q.
-    p.positive and not q.positive and sameStatement p.said q.said
-    and all (isIn ls) (others a.literals i) and all (isIn ls) (others b.literals j)
+    p.positive and not q.positive and same_statement p.said q.said
+    and all (is_in ls) (others a.literals i) and all (is_in ls) (others b.literals j)
 
 -- the lines before line k
 unfoldable pub earlier : List Line → ℕ → List Line
 earlier lines k = take k lines
 
 -- line k of a proof follows, by its own rule, from the lines before it; what a rule asks is told by the first argument
-abbrev pub lineBy : (List Line → List Literal → Rule → Bool) → List Line → ℕ → Bool
-lineBy asks lines k = named (at lines k) λ l. asks (earlier lines k) l.literals l.rule
+abbrev pub line_by : (List Line → List Literal → Rule → Bool) → List Line → ℕ → Bool
+line_by asks lines k = named (at lines k) λ l. asks (earlier lines k) l.literals l.rule
 
-unfoldable pub lineFollows : Dossier → List Line → ℕ → Bool
-lineFollows D = lineBy (follows D)
+unfoldable pub line_follows : Dossier → List Line → ℕ → Bool
+line_follows D = line_by (follows D)

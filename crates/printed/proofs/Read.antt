@@ -6,66 +6,66 @@ use native.Mathlib.Omega.{arith}
 use lib.ListN.{length, take, drop, length-drop}
 use lib.Seq.{take-append-le, drop-append-le}
 use Rattle.promise.specs.Place.{part, rows, filled}
-use Rattle.promise.proofs.Place.{rows-length}
-use Rattle.judging.specs.Judge.{judgeOf}
+use Rattle.promise.proofs.Place.{rows_length}
+use Rattle.judging.specs.Judge.{judge_of}
 use Rattle.text.specs.Bytes.{word_at, input_of}
-use Rattle.text.specs.Line.{line_of, inputLine}
-use Rattle.text.proofs.Put.{line-short, input-line-short}
+use Rattle.text.specs.Line.{line_of, input_line}
+use Rattle.text.proofs.Put.{line_short, input_line_short}
 use Rattle.text.specs.declared.Input.{Input}
 use Rattle.text.specs.declared.Input.TheVariants.{Bad, Papers}
-use Rattle.printed.specs.Printed.{words_of, printed, printedFor, tableFor, tableRead}
+use Rattle.printed.specs.Printed.{words_of, printed, printed_for, table_for, table_read}
 
 -- a part that ends within the rows
-pub part-rows : (f : ℕ → ℕ) (n p k : ℕ) (old : List ℕ) {t : List ℕ} → t ≡ filled f n old → p + k ≤ n → part t p k ≡ part (rows f n) p k
+pub part_rows : (f : ℕ → ℕ) (n p k : ℕ) (old : List ℕ) {t : List ℕ} → t ≡ filled f n old → p + k ≤ n → part t p k ≡ part (rows f n) p k
 unfolding part filled
-part-rows f n p k old e h =
-    let l = rows-length f n in
+part_rows f n p k old e h =
+    let l = rows_length f n in
     ap (λ (x : List ℕ). take k (drop p x)) e
     ∙ ap (take k) (drop-append-le p (rows f n) (drop n old) (omega arith))
     ∙ take-append-le k (drop p (rows f n)) (drop n old) (omega (arith, length-drop p (rows f n)))
 
 -- the line for papers, with the words in a table
-pub printed-papers : (bs old : List ℕ) (d c : ℕ) {r : Input} {t : List ℕ} → r ≡ input_of bs → r ≡ Papers d c → t ≡ filled (word_at bs) (min (length bs / 2) (length old)) old → length bs / 2 ≤ length old → d + c + 1 ≡ length bs / 2
-    → line_of (judgeOf (part t 1 d) (part t (1 + d) c) 64) ≡ printed bs
-unfolding printed printedFor words_of
-printed-papers bs old d c {r} {t} e f g h l =
+pub printed_papers : (bs old : List ℕ) (d c : ℕ) {r : Input} {t : List ℕ} → r ≡ input_of bs → r ≡ Papers d c → t ≡ filled (word_at bs) (min (length bs / 2) (length old)) old → length bs / 2 ≤ length old → d + c + 1 ≡ length bs / 2
+    → line_of (judge_of (part t 1 d) (part t (1 + d) c) 64) ≡ printed bs
+unfolding printed printed_for words_of
+printed_papers bs old d c {r} {t} e f g h l =
     let m : min (length bs / 2) (length old) ≡ length bs / 2 = omega arith in
     let g' : t ≡ filled (word_at bs) (length bs / 2) old = g ∙ ap (λ (n : ℕ). filled (word_at bs) n old) m in
-    ap (λ (x : List ℕ). line_of (judgeOf x (part t (1 + d) c) 64)) (part-rows (word_at bs) (length bs / 2) 1 d old g' (omega arith))
-    ∙ ap (λ (x : List ℕ). line_of (judgeOf (part (rows (word_at bs) (length bs / 2)) 1 d) x 64)) (part-rows (word_at bs) (length bs / 2) (1 + d) c old g' (omega arith))
-    ∙ ap (printedFor (rows (word_at bs) (length bs / 2))) (sym f ∙ e)
+    ap (λ (x : List ℕ). line_of (judge_of x (part t (1 + d) c) 64)) (part_rows (word_at bs) (length bs / 2) 1 d old g' (omega arith))
+    ∙ ap (λ (x : List ℕ). line_of (judge_of (part (rows (word_at bs) (length bs / 2)) 1 d) x 64)) (part_rows (word_at bs) (length bs / 2) (1 + d) c old g' (omega arith))
+    ∙ ap (printed_for (rows (word_at bs) (length bs / 2))) (sym f ∙ e)
 
-pub printed-bad : (bs : List ℕ) {r : Input} → r ≡ input_of bs → r ≡ Bad → inputLine ≡ printed bs
-unfolding printed printedFor
-printed-bad bs e f = ap (printedFor (words_of bs)) (sym f ∙ e)
+pub printed_bad : (bs : List ℕ) {r : Input} → r ≡ input_of bs → r ≡ Bad → input_line ≡ printed bs
+unfolding printed printed_for
+printed_bad bs e f = ap (printed_for (words_of bs)) (sym f ∙ e)
 
 -- the table after it: as it was, or with the words at its start
-pub table-bad : (bs t : List ℕ) {r : Input} → r ≡ input_of bs → r ≡ Bad → t ≡ tableRead bs t
-unfolding tableRead tableFor
-table-bad bs t e f = ap (tableFor bs t) (sym f ∙ e)
+pub table_bad : (bs t : List ℕ) {r : Input} → r ≡ input_of bs → r ≡ Bad → t ≡ table_read bs t
+unfolding table_read table_for
+table_bad bs t e f = ap (table_for bs t) (sym f ∙ e)
 
-pub table-papers : (bs old : List ℕ) (d c : ℕ) {r : Input} {t : List ℕ} → r ≡ input_of bs → r ≡ Papers d c → t ≡ filled (word_at bs) (min (length bs / 2) (length old)) old → length bs / 2 ≤ length old → t ≡ tableRead bs old
-unfolding tableRead tableFor
-table-papers bs old d c e f g h =
+pub table_papers : (bs old : List ℕ) (d c : ℕ) {r : Input} {t : List ℕ} → r ≡ input_of bs → r ≡ Papers d c → t ≡ filled (word_at bs) (min (length bs / 2) (length old)) old → length bs / 2 ≤ length old → t ≡ table_read bs old
+unfolding table_read table_for
+table_papers bs old d c e f g h =
     let m : min (length bs / 2) (length old) ≡ length bs / 2 = omega arith in
-    g ∙ ap (λ (n : ℕ). filled (word_at bs) n old) m ∙ ap (tableFor bs old) (sym f ∙ e)
+    g ∙ ap (λ (n : ℕ). filled (word_at bs) n old) m ∙ ap (table_for bs old) (sym f ∙ e)
 
 -- no line is longer than 96 bytes
-pub printed-short : (bs : List ℕ) → length (printed bs) ≤ 96
-unfolding printed printedFor
-printed-short bs = go (words_of bs) (input_of bs)
+pub printed_short : (bs : List ℕ) → length (printed bs) ≤ 96
+unfolding printed printed_for
+printed_short bs = go (words_of bs) (input_of bs)
   where
-    go : (ws : List ℕ) (i : Input) → length (printedFor ws i) ≤ 96
-    go ws Bad = input-line-short
-    go ws (Papers d c) = line-short (judgeOf (part ws 1 d) (part ws (1 + d) c) 64)
+    go : (ws : List ℕ) (i : Input) → length (printed_for ws i) ≤ 96
+    go ws Bad = input_line_short
+    go ws (Papers d c) = line_short (judge_of (part ws 1 d) (part ws (1 + d) c) 64)
 
 -- `&ws[p..p + k]` is the part of k words from p on
-pub cut-part : (ws : List ℕ) (p k : ℕ) → take (p + k - p) (drop p ws) ≡ part ws p k
+pub cut_part : (ws : List ℕ) (p k : ℕ) → take (p + k - p) (drop p ws) ≡ part ws p k
 unfolding part
-cut-part ws p k = let e : p + k - p ≡ k = omega arith in rw e
+cut_part ws p k = let e : p + k - p ≡ k = omega arith in rw e
 
-pub papers-cut : (ws : List ℕ) (p d c : ℕ) → line_of (judgeOf (take (p + d - p) (drop p ws)) (take (p + d + c - (p + d)) (drop (p + d) ws)) 64) ≡ line_of (judgeOf (part ws p d) (part ws (p + d) c) 64)
-papers-cut ws p d c = rw (cut-part ws p d, cut-part ws (p + d) c)
+pub papers_cut : (ws : List ℕ) (p d c : ℕ) → line_of (judge_of (take (p + d - p) (drop p ws)) (take (p + d + c - (p + d)) (drop (p + d) ws)) 64) ≡ line_of (judge_of (part ws p d) (part ws (p + d) c) 64)
+papers_cut ws p d c = rw (cut_part ws p d, cut_part ws (p + d) c)
 
-pub printed-count : (bs : List ℕ) {r : ℕ} → r ≡ length (printed bs) → r ≤ 96
-printed-count bs e = omega (arith, printed-short bs)
+pub printed_count : (bs : List ℕ) {r : ℕ} → r ≡ length (printed bs) → r ≤ 96
+printed_count bs e = omega (arith, printed_short bs)

@@ -1,12 +1,12 @@
 // The lines that the programs print: of the judge's reply, of standard input, of the answers, and of shown words.
 ghost use Rattle.std.specs.Prelude.{◌≡◌, ◌++◌, ◌+◌, ◌*◌, ◌≤◌, length};
 ghost use Rattle.promise.specs.Place.{part};
-ghost use Rattle.judging.specs.Judge.{judgeOf};
-ghost use Rattle.judging.specs.Rounds.{roundsAfter};
-ghost use Rattle.judging.specs.Answers.{tableAfter};
+ghost use Rattle.judging.specs.Judge.{judge_of};
+ghost use Rattle.judging.specs.Rounds.{rounds_after};
+ghost use Rattle.judging.specs.Answers.{table_after};
 ghost use Rattle.text.specs.Line.{put, decimal, line_of};
-ghost use Rattle.printed.specs.Printed.{printed, tableRead};
-ghost use Rattle.printed.specs.Lists.{spaced, spacedAll, list_of, answersHead, answersLine, roundsLine, asking, shownLine};
+ghost use Rattle.printed.specs.Printed.{printed, table_read};
+ghost use Rattle.printed.specs.Lists.{spaced, spaced_all, list_of, answers_head, answers_line, rounds_line, asking, shown_line};
 
 use reply::{Paper, Reply, Verdict, Written};
 use text::Input;
@@ -21,8 +21,8 @@ fn lent() -> [u16; 64]
 // The line of the judge's reply to the two papers. Answers how many bytes it has.
 pub fn papers_line(dossier: &[u16], certificate: &[u16], out: &mut [u8]) -> usize
     requires { 96 ≤ length out.old }
-    ensures { (out.new ≡ put out.old 0 (line_of (judgeOf dossier.now certificate.now 64)))
-        × (result ≡ length (line_of (judgeOf dossier.now certificate.now 64))) }
+    ensures { (out.new ≡ put out.old 0 (line_of (judge_of dossier.now certificate.now 64)))
+        × (result ≡ length (line_of (judge_of dossier.now certificate.now 64))) }
 {
     let mut rounds = lent();
     text::line(judging::judge(dossier, certificate, &mut rounds), out)
@@ -31,8 +31,8 @@ pub fn papers_line(dossier: &[u16], certificate: &[u16], out: &mut [u8]) -> usiz
 // The line of the judge's reply to papers that lie in the words from place `at` on: d words of the dossier, then c of the certificate. Answers how many bytes it has.
 pub fn papers_at(words: &[u16], at: usize, d: usize, c: usize, out: &mut [u8]) -> usize
     requires { (at + d + c ≤ length words.now) × (96 ≤ length out.old) }
-    ensures { (out.new ≡ put out.old 0 (line_of (judgeOf (part words.now at d) (part words.now (at + d) c) 64)))
-        × (result ≡ length (line_of (judgeOf (part words.now at d) (part words.now (at + d) c) 64))) }
+    ensures { (out.new ≡ put out.old 0 (line_of (judge_of (part words.now at d) (part words.now (at + d) c) 64)))
+        × (result ≡ length (line_of (judge_of (part words.now at d) (part words.now (at + d) c) 64))) }
 {
     let from = at + d;
     let end = from + c;
@@ -43,7 +43,7 @@ pub fn papers_at(words: &[u16], at: usize, d: usize, c: usize, out: &mut [u8]) -
 pub fn stdin_line(bytes: &[u8], table: &mut [u16], out: &mut [u8]) -> usize
     requires { (32768 ≤ length table.old) × (96 ≤ length out.old) }
     ensures { (out.new ≡ put out.old 0 (printed bytes.now)) × (result ≡ length (printed bytes.now))
-        × (table.new ≡ tableRead bytes.now table.old) }
+        × (table.new ≡ table_read bytes.now table.old) }
 {
     let found = text::split(bytes);
     match found {
@@ -67,7 +67,7 @@ fn spaced_word(word: u16, out: &mut [u8], at: usize) -> usize
 // Writes the words, each after a space, from place `at` on. Answers the place after them.
 fn spaced_words(words: &[u16], out: &mut [u8], at: usize) -> usize
     requires { at + 6 * length words.now ≤ length out.old }
-    ensures { (out.new ≡ put out.old at (spacedAll words.now)) × (result ≡ at + length (spacedAll words.now)) }
+    ensures { (out.new ≡ put out.old at (spaced_all words.now)) × (result ≡ at + length (spaced_all words.now)) }
 {
     let n = words.len();
     let mut p = at;
@@ -102,7 +102,7 @@ fn headed(title: &[u8], n: usize, out: &mut [u8]) -> usize
 // Writes what the answers entry answered at the table's start, without a line feed. Answers how many bytes it has.
 fn answers_head(answer: Written, out: &mut [u8]) -> usize
     requires { 96 ≤ length out.old }
-    ensures { (out.new ≡ put out.old 0 (answersHead answer)) × (result ≡ length (answersHead answer)) }
+    ensures { (out.new ≡ put out.old 0 (answers_head answer)) × (result ≡ length (answers_head answer)) }
 {
     match answer {
         Written::Count(n) => headed(b"ANSWERS ", n, out),
@@ -113,9 +113,9 @@ fn answers_head(answer: Written, out: &mut [u8]) -> usize
 // The line of the answers entry: what it answers, and then the whole of the table, which it was lent. Answers how many bytes the line has.
 pub fn answers_line(dossier: &[u16], table: &mut [u16], out: &mut [u8]) -> usize
     requires { 96 + 6 * length table.old ≤ length out.old }
-    ensures { (out.new ≡ put out.old 0 (answersLine dossier.now table.old))
-        × (result ≡ length (answersLine dossier.now table.old))
-        × (table.new ≡ tableAfter dossier.now table.old) }
+    ensures { (out.new ≡ put out.old 0 (answers_line dossier.now table.old))
+        × (result ≡ length (answers_line dossier.now table.old))
+        × (table.new ≡ table_after dossier.now table.old) }
 {
     let answer = judging::answers(dossier, table);
     let p = answers_head(answer, out);
@@ -130,9 +130,9 @@ pub fn rounds_line(
     out: &mut [u8],
 ) -> usize
     requires { 96 + 6 * length rounds.old ≤ length out.old }
-    ensures { (out.new ≡ put out.old 0 (roundsLine dossier.now certificate.now rounds.old))
-        × (result ≡ length (roundsLine dossier.now certificate.now rounds.old))
-        × (rounds.new ≡ roundsAfter dossier.now certificate.now rounds.old) }
+    ensures { (out.new ≡ put out.old 0 (rounds_line dossier.now certificate.now rounds.old))
+        × (result ≡ length (rounds_line dossier.now certificate.now rounds.old))
+        × (rounds.new ≡ rounds_after dossier.now certificate.now rounds.old) }
 {
     let reply = judging::judge(dossier, certificate, rounds);
     let p = text::reply_text(reply, out);
@@ -149,8 +149,8 @@ pub fn shown_line<'a>(
     out: &mut [u8],
 ) -> usize
     requires { 96 + 6 * (length dossier.now + length certificate.now) ≤ length out.old }
-    ensures { (out.new ≡ put out.old 0 (shownLine dossier.now certificate.now (asking paper place count)))
-        × (result ≡ length (shownLine dossier.now certificate.now (asking paper place count))) }
+    ensures { (out.new ≡ put out.old 0 (shown_line dossier.now certificate.now (asking paper place count)))
+        × (result ≡ length (shown_line dossier.now certificate.now (asking paper place count))) }
 {
     let reply = Reply {
         verdict: Verdict::Opaque,

@@ -9,7 +9,7 @@ use lib.ListN.{length, get_or}
 use borrow.Author.Tests.{eq-eqb, ne_eqb, eqb-true, eqb-false, lt-ltb, le-ltb}
 use Rattle.meaning.specs.Tests.{◌is◌, choose}
 use Rattle.meaning.specs.Formula.{Reading, read}
-use Rattle.promise.specs.Formula.{formulaAt, formulaEnd, FormulaFits}
+use Rattle.promise.specs.Formula.{formula_at, formula_end, FormulaFits}
 
 -- it is at least one deep
 pub deep : (n d : ℕ) (ws : List ℕ) (p : ℕ) → FormulaFits n d ws p → d ≡ suc (d - 1)
@@ -18,70 +18,70 @@ deep n zero ws p f = absurd f
 deep n (suc d) ws p f = omega arith
 
 module _ (n d : ℕ) (ws : List ℕ) (p : ℕ) (f : FormulaFits n d ws p) where
-  fits-at : (c : ℕ) → d ≡ suc c → FormulaFits n (suc c) ws p
-  fits-at c z = rw z at f
+  fits_at : (c : ℕ) → d ≡ suc c → FormulaFits n (suc c) ws p
+  fits_at c z = rw z at f
 
   -- its words are there, its atom is below n, its operands are at most one less deep
-  pub fits-here : p < length ws
+  pub fits_here : p < length ws
   unfolding FormulaFits
-  fits-here = (fits-at (d - 1) (deep n d ws p f)).0
+  fits_here = (fits_at (d - 1) (deep n d ws p f)).0
 
   module _ {x : ℕ} (w : x ≡ get_or ws p 0) where
-    pub fits-atom : x < 256 → x < n
+    pub fits_atom : x < 256 → x < n
     unfolding FormulaFits
-    fits-atom h = rw w (simp (lt-ltb (get_or ws p 0) 256 (rw (← w) h)) at (fits-at (d - 1) (deep n d ws p f)).1)
+    fits_atom h = rw w (simp (lt-ltb (get_or ws p 0) 256 (rw (← w) h)) at (fits_at (d - 1) (deep n d ws p f)).1)
 
     pub fits_one : 256 < x → FormulaFits n (d - 1) ws (p + 1)
     unfolding FormulaFits
-    fits_one h = (simp (lt-ltb 256 (get_or ws p 0) (rw (← w) h)) at (fits-at (d - 1) (deep n d ws p f)).2).0
+    fits_one h = (simp (lt-ltb 256 (get_or ws p 0) (rw (← w) h)) at (fits_at (d - 1) (deep n d ws p f)).2).0
 
-    pub fits-two : 257 < x → FormulaFits n (d - 1) ws (formulaEnd (d - 1) ws (p + 1))
+    pub fits_two : 257 < x → FormulaFits n (d - 1) ws (formula_end (d - 1) ws (p + 1))
     unfolding FormulaFits
-    fits-two h =
+    fits_two h =
         let a : 256 < get_or ws p 0 = omega arith in
         let b : 257 < get_or ws p 0 = omega arith in
-        (simp (lt-ltb _ _ a, lt-ltb _ _ b) at (fits-at (d - 1) (deep n d ws p f)).2).1
+        (simp (lt-ltb _ _ a, lt-ltb _ _ b) at (fits_at (d - 1) (deep n d ws p f)).2).1
 
     module _ {A : Type 0} (R : Reading A) where
       -- v is the formula's value, and the next thing begins at q
       abbrev pub Valued : A → ℕ → Type 0
-      Valued v q = (v ≡ read R (formulaAt d ws p)) × (q ≡ formulaEnd d ws p)
+      Valued v q = (v ≡ read R (formula_at d ws p)) × (q ≡ formula_end d ws p)
 
-      pub read-atom : x < 256 → Valued (R.atom x) (p + 1)
-      unfolding read formulaAt formulaEnd choose
-      read-atom h =
+      pub read_atom : x < 256 → Valued (R.atom x) (p + 1)
+      unfolding read formula_at formula_end choose
+      read_atom h =
           let a : get_or ws p 0 < 256 = omega arith in
           let b : get_or ws p 0 < 257 = omega arith in
           rw (deep n d ws p f) (simp (lt-ltb _ _ a, lt-ltb _ _ b) (ap R.atom w, refl))
 
-      pub read-true : x ≡ 256 → Valued R.always (p + 1)
-      unfolding read formulaAt formulaEnd choose ◌is◌
-      read-true h =
+      pub read_true : x ≡ 256 → Valued R.always (p + 1)
+      unfolding read formula_at formula_end choose ◌is◌
+      read_true h =
           let a : 256 ≤ get_or ws p 0 = omega arith in
           let b : get_or ws p 0 < 257 = omega arith in
           let e : get_or ws p 0 ≡ 256 = omega arith in
           rw (deep n d ws p f) (simp (le-ltb _ _ a, lt-ltb _ _ b, eq-eqb _ _ e) (refl, refl))
 
-      module _ {v : A} {h : ℕ} (v₁ : v ≡ read R (formulaAt (d - 1) ws (p + 1))) (h₁ : h ≡ formulaEnd (d - 1) ws (p + 1)) where
-        pub read-not : x ≡ 257 → Valued (R.neg v) h
-        unfolding read formulaAt formulaEnd choose ◌is◌
-        read-not e =
+      module _ {v : A} {h : ℕ} (v₁ : v ≡ read R (formula_at (d - 1) ws (p + 1))) (h₁ : h ≡ formula_end (d - 1) ws (p + 1)) where
+        pub read_not : x ≡ 257 → Valued (R.neg v) h
+        unfolding read formula_at formula_end choose ◌is◌
+        read_not e =
             let a : 256 ≤ get_or ws p 0 = omega arith in
             let b : 257 ≤ get_or ws p 0 = omega arith in
             let c : get_or ws p 0 ≡ 256 → ⊥ = λ z. omega (arith, z) in
             let g : get_or ws p 0 ≡ 257 = omega arith in
             rw (deep n d ws p f) (simp (le-ltb _ _ a, le-ltb _ _ b, ne_eqb _ _ c, eq-eqb _ _ g) (ap R.neg v₁, h₁))
 
-        module _ {u : A} {z : ℕ} (u₁ : u ≡ read R (formulaAt (d - 1) ws h)) (z₁ : z ≡ formulaEnd (d - 1) ws h) (big : 257 < x) where
-          u₂ : u ≡ read R (formulaAt (d - 1) ws (formulaEnd (d - 1) ws (p + 1)))
-          u₂ = u₁ ∙ ap (λ (q : ℕ). read R (formulaAt (d - 1) ws q)) h₁
+        module _ {u : A} {z : ℕ} (u₁ : u ≡ read R (formula_at (d - 1) ws h)) (z₁ : z ≡ formula_end (d - 1) ws h) (big : 257 < x) where
+          u₂ : u ≡ read R (formula_at (d - 1) ws (formula_end (d - 1) ws (p + 1)))
+          u₂ = u₁ ∙ ap (λ (q : ℕ). read R (formula_at (d - 1) ws q)) h₁
 
-          z₂ : z ≡ formulaEnd (d - 1) ws (formulaEnd (d - 1) ws (p + 1))
-          z₂ = z₁ ∙ ap (formulaEnd (d - 1) ws) h₁
+          z₂ : z ≡ formula_end (d - 1) ws (formula_end (d - 1) ws (p + 1))
+          z₂ = z₁ ∙ ap (formula_end (d - 1) ws) h₁
 
-          pub read-and : x ≡ 258 → Valued (R.conj v u) z
-          unfolding read formulaAt formulaEnd choose ◌is◌
-          read-and e =
+          pub read_and : x ≡ 258 → Valued (R.conj v u) z
+          unfolding read formula_at formula_end choose ◌is◌
+          read_and e =
               let a : 256 ≤ get_or ws p 0 = omega arith in
               let b : 257 ≤ get_or ws p 0 = omega arith in
               let c : get_or ws p 0 ≡ 256 → ⊥ = λ y. omega (arith, y) in
@@ -89,9 +89,9 @@ module _ (n d : ℕ) (ws : List ℕ) (p : ℕ) (f : FormulaFits n d ws p) where
               let g : get_or ws p 0 ≡ 258 = omega arith in
               rw (deep n d ws p f) (simp (le-ltb _ _ a, le-ltb _ _ b, ne_eqb _ _ c, ne_eqb _ _ k, eq-eqb _ _ g) (ap₂ R.conj v₁ u₂, z₂))
 
-          pub read-or : (x ≡ 258 → ⊥) → Valued (R.disj v u) z
-          unfolding read formulaAt formulaEnd choose ◌is◌
-          read-or e =
+          pub read_or : (x ≡ 258 → ⊥) → Valued (R.disj v u) z
+          unfolding read formula_at formula_end choose ◌is◌
+          read_or e =
               let a : 256 ≤ get_or ws p 0 = omega arith in
               let b : 257 ≤ get_or ws p 0 = omega arith in
               let c : get_or ws p 0 ≡ 256 → ⊥ = λ y. omega (arith, y) in
@@ -99,10 +99,10 @@ module _ (n d : ℕ) (ws : List ℕ) (p : ℕ) (f : FormulaFits n d ws p) where
               let g : get_or ws p 0 ≡ 258 → ⊥ = λ y. e (w ∙ y) in
               rw (deep n d ws p f) (simp (le-ltb _ _ a, le-ltb _ _ b, ne_eqb _ _ c, ne_eqb _ _ k, ne_eqb _ _ g) (ap₂ R.disj v₁ u₂, z₂))
 
-          pub read-joined : Valued (choose (x is 258) (R.conj v u) (R.disj v u)) z
+          pub read_joined : Valued (choose (x is 258) (R.conj v u) (R.disj v u)) z
           unfolding choose ◌is◌
-          read-joined = go (eqb x 258) refl
+          read_joined = go (eqb x 258) refl
             where
               go : (b : Bool) → eqb x 258 ≡ b → Valued (choose b (R.conj v u) (R.disj v u)) z
-              go true e = read-and (eqb-true _ _ e)
-              go false e = read-or (eqb-false _ _ e)
+              go true e = read_and (eqb-true _ _ e)
+              go false e = read_or (eqb-false _ _ e)

@@ -18,87 +18,87 @@ pub part_none : (ws : List ℕ) (p k : ℕ) → k ≤ 0 → part ws p k ≡ []
 unfolding part
 part_none ws p k h = let z : k ≡ 0 = omega arith in rw z
 
-pub part-cons : (ws : List ℕ) (p k : ℕ) → 0 < k → p + k ≤ length ws → part ws p k ≡ get_or ws p 0 ∷ part ws (p + 1) (k - 1)
+pub part_cons : (ws : List ℕ) (p k : ℕ) → 0 < k → p + k ≤ length ws → part ws p k ≡ get_or ws p 0 ∷ part ws (p + 1) (k - 1)
 unfolding part
-part-cons ws p k more h = let i : p < length ws = omega arith in on (k - 1) (omega arith) i
+part_cons ws p k more h = let i : p < length ws = omega arith in on (k - 1) (omega arith) i
   where
     on : (j : ℕ) → k ≡ suc j → p < length ws → take k (drop p ws) ≡ get_or ws p 0 ∷ take j (drop (p + 1) ws)
     on j z i = rw (z, add-one, drop-cons ws p 0)
 
 module _ (ws : List ℕ) (p k : ℕ) (more : 0 < k) (h : p + k ≤ length ws) where
-  pub part-first : get_or ws p 0 ∈ part ws p k
-  part-first = rw (part-cons ws p k more h) (Memᴰ.head refl)
+  pub part_first : get_or ws p 0 ∈ part ws p k
+  part_first = rw (part_cons ws p k more h) (Memᴰ.head refl)
 
-  pub part-later : {x : ℕ} → x ∈ part ws (p + 1) (k - 1) → x ∈ part ws p k
-  part-later m = rw (part-cons ws p k more h) (Memᴰ.tail m)
+  pub part_later : {x : ℕ} → x ∈ part ws (p + 1) (k - 1) → x ∈ part ws p k
+  part_later m = rw (part_cons ws p k more h) (Memᴰ.tail m)
 
 -- ---- places
 
 -- the places from the second thing on
-pub place-next : (next : ℕ → ℕ) (p j : ℕ) → place next (next p) j ≡ place next p (suc j)
+pub place_next : (next : ℕ → ℕ) (p j : ℕ) → place next (next p) j ≡ place next p (suc j)
 unfolding place
-place-next next p zero = refl
-place-next next p (suc j) = ap next (place-next next p j)
+place_next next p zero = refl
+place_next next p (suc j) = ap next (place_next next p j)
 
 -- one step of a walk
-pub place-on : (next : ℕ → ℕ) (p i : ℕ) {at r : ℕ} → at ≡ place next p i → r ≡ next at → r ≡ place next p (i + 1)
+pub place_on : (next : ℕ → ℕ) (p i : ℕ) {at r : ℕ} → at ≡ place next p i → r ≡ next at → r ≡ place next p (i + 1)
 unfolding place
-place-on next p i e f = f ∙ ap next e ∙ rw add-one
+place_on next p i e f = f ∙ ap next e ∙ rw add-one
 
 module _ {A : Type 0} (K : Kind A) (ws : List ℕ) (p k : ℕ) where
-  pub many-none : k ≤ 0 → many K ws p k ≡ []
+  pub many_none : k ≤ 0 → many K ws p k ≡ []
   unfolding many
-  many-none h = let z : k ≡ 0 = omega arith in rw z
+  many_none h = let z : k ≡ 0 = omega arith in rw z
 
   module _ (more : 0 < k) where
-    pub many-on : many K ws p k ≡ K.read ws p ∷ many K ws (K.next ws p) (k - 1)
+    pub many_on : many K ws p k ≡ K.read ws p ∷ many K ws (K.next ws p) (k - 1)
     unfolding many
-    many-on = on (k - 1) (omega arith)
+    many_on = on (k - 1) (omega arith)
       where
         on : (j : ℕ) → k ≡ suc j → many K ws p k ≡ K.read ws p ∷ many K ws (K.next ws p) j
         on j z = rw z
 
     -- the first, and those after it
-    pub fit-first : Fit K ws p k → K.ok ws p
+    pub fit_first : Fit K ws p k → K.ok ws p
     unfolding Fit place
-    fit-first f = f 0 more
+    fit_first f = f 0 more
 
     pub fit_on : Fit K ws p k → Fit K ws (K.next ws p) (k - 1)
     unfolding Fit
-    fit_on f j h = rw (place-next (K.next ws) p j) (f (suc j) (omega arith))
+    fit_on f j h = rw (place_next (K.next ws) p j) (f (suc j) (omega arith))
 
 module _ {A : Type 0} (K : Kind A) (ws : List ℕ) where
-  pub many-length : (p k : ℕ) → length (many K ws p k) ≡ k
+  pub many_length : (p k : ℕ) → length (many K ws p k) ≡ k
   unfolding many
-  many-length p zero = refl
-  many-length p (suc k) = ap suc (many-length (K.next ws p) k)
+  many_length p zero = refl
+  many_length p (suc k) = ap suc (many_length (K.next ws p) k)
 
   -- what holds of whatever fits holds of each of them
-  pub fit-each : (Q : A → Type 0) → ((q : ℕ) → K.ok ws q → Q (K.read ws q)) → (p k : ℕ) → Fit K ws p k → (x : A) → x ∈ many K ws p k → Q x
+  pub fit_each : (Q : A → Type 0) → ((q : ℕ) → K.ok ws q → Q (K.read ws q)) → (p k : ℕ) → Fit K ws p k → (x : A) → x ∈ many K ws p k → Q x
   unfolding many Fit place
-  fit-each Q g p (suc k) f x (Memᴰ.head e) = subst Q (sym e) (g p (f 0 (omega arith)))
-  fit-each Q g p (suc k) f x (Memᴰ.tail m) = fit-each Q g (K.next ws p) k (λ j h. rw (place-next (K.next ws) p j) (f (suc j) (omega arith))) x m
-  fit-each Q g p zero f x m = absurd (Memᴰ.not-nil m)
+  fit_each Q g p (suc k) f x (Memᴰ.head e) = subst Q (sym e) (g p (f 0 (omega arith)))
+  fit_each Q g p (suc k) f x (Memᴰ.tail m) = fit_each Q g (K.next ws p) k (λ j h. rw (place_next (K.next ws) p j) (f (suc j) (omega arith))) x m
+  fit_each Q g p zero f x m = absurd (Memᴰ.not-nil m)
 
   -- thing j, and that there is none
-  pub many-at : (p k j : ℕ) → j < k → at (many K ws p k) j ≡ some (K.read ws (place (K.next ws) p j))
+  pub many_at : (p k j : ℕ) → j < k → at (many K ws p k) j ≡ some (K.read ws (place (K.next ws) p j))
   unfolding many at place
-  many-at p zero j h = absurd (omega arith)
-  many-at p (suc k) zero h = refl
-  many-at p (suc k) (suc j) h = many-at (K.next ws p) k j (omega arith) ∙ ap (λ (q : ℕ). some (K.read ws q)) (place-next (K.next ws) p j)
+  many_at p zero j h = absurd (omega arith)
+  many_at p (suc k) zero h = refl
+  many_at p (suc k) (suc j) h = many_at (K.next ws p) k j (omega arith) ∙ ap (λ (q : ℕ). some (K.read ws q)) (place_next (K.next ws) p j)
 
-  pub many-past : (p k j : ℕ) → k ≤ j → at (many K ws p k) j ≡ none
+  pub many_past : (p k j : ℕ) → k ≤ j → at (many K ws p k) j ≡ none
   unfolding many at
-  many-past p zero j h = refl
-  many-past p (suc k) zero h = absurd (omega arith)
-  many-past p (suc k) (suc j) h = many-past (K.next ws p) k j (omega arith)
+  many_past p zero j h = refl
+  many_past p (suc k) zero h = absurd (omega arith)
+  many_past p (suc k) (suc j) h = many_past (K.next ws p) k j (omega arith)
 
 -- ---- tables
 
-pub rows-length : (f : ℕ → ℕ) (k : ℕ) → length (rows f k) ≡ k
+pub rows_length : (f : ℕ → ℕ) (k : ℕ) → length (rows f k) ≡ k
 unfolding rows
-rows-length f zero = refl
-rows-length f (suc k) = length-append (rows f k) (f k ∷ []) ∙ (omega (arith, rows-length f k))
+rows_length f zero = refl
+rows_length f (suc k) = length-append (rows f k) (f k ∷ []) ∙ (omega (arith, rows_length f k))
 
 rows_at : (f : ℕ → ℕ) (k j : ℕ) (rest : List ℕ) → j < k → get_or (rows f k ++ rest) j 0 ≡ f j
 unfolding rows
@@ -107,29 +107,29 @@ rows_at f (suc k) j rest h = rw (append_assoc (rows f k) (f k ∷ []) rest) (go 
   where
     go : Dec (j < k) → (j < k → get_or (rows f k ++ (f k ∷ rest)) j 0 ≡ f j) → get_or (rows f k ++ (f k ∷ rest)) j 0 ≡ f j
     go (yes i) ih = ih i
-    go (no ni) ih = let e : j ≡ k = omega arith in rw e (ap (λ (n : ℕ). get_or (rows f k ++ (f k ∷ rest)) n 0) (sym (rows-length f k)) ∙ get_or-append_seam (rows f k) (f k) rest 0)
+    go (no ni) ih = let e : j ≡ k = omega arith in rw e (ap (λ (n : ℕ). get_or (rows f k ++ (f k ∷ rest)) n 0) (sym (rows_length f k)) ∙ get_or-append_seam (rows f k) (f k) rest 0)
 
 pub rows_get : (f : ℕ → ℕ) (k j : ℕ) → j < k → get_or (rows f k) j 0 ≡ f j
 rows_get f k j h = ap (λ (l : List ℕ). get_or l j 0) (sym (append-nil (rows f k))) ∙ rows_at f k j [] h
 
 -- a table that has these values is their rows
 pub rows_are : (f : ℕ → ℕ) (k : ℕ) (t : List ℕ) → length t ≡ k → ((j : ℕ) → j < k → get_or t j 0 ≡ f j) → t ≡ rows f k
-rows_are f k t l h = ext_get_or 0 t (rows f k) (l ∙ sym (rows-length f k)) (λ j i. h j (omega arith) ∙ sym (rows_get f k j (omega arith)))
+rows_are f k t l h = ext_get_or 0 t (rows f k) (l ∙ sym (rows_length f k)) (λ j i. h j (omega arith) ∙ sym (rows_get f k j (omega arith)))
 
 pub rows_same : (f g : ℕ → ℕ) (k : ℕ) → ((j : ℕ) → j < k → f j ≡ g j) → rows f k ≡ rows g k
-rows_same f g k h = rows_are g k (rows f k) (rows-length f k) (λ j i. rows_get f k j i ∙ h j i)
+rows_same f g k h = rows_are g k (rows f k) (rows_length f k) (λ j i. rows_get f k j i ∙ h j i)
 
 -- entry j of a filled table, and its length
 pub filled_at : (f : ℕ → ℕ) (k j : ℕ) (old : List ℕ) → j < k → get_or (filled f k old) j 0 ≡ f j
 unfolding filled
 filled_at f k j old h = rows_at f k j (drop k old) h
 
-pub filled-length : (f : ℕ → ℕ) (k : ℕ) (old : List ℕ) → k ≤ length old → length (filled f k old) ≡ length old
+pub filled_length : (f : ℕ → ℕ) (k : ℕ) (old : List ℕ) → k ≤ length old → length (filled f k old) ≡ length old
 unfolding filled
-filled-length f k old h = length-append (rows f k) (drop k old) ∙ (omega (arith, rows-length f k, length-drop k old))
+filled_length f k old h = length-append (rows f k) (drop k old) ∙ (omega (arith, rows_length f k, length-drop k old))
 
-pub filled-starts : (next : ℕ → ℕ) (p k : ℕ) (old : List ℕ) {t : List ℕ} → t ≡ filled (place next p) k old → k ≤ length old → Starts next p k t
-filled-starts next p k old e h = record { long = rw e (omega (arith, filled-length (place next p) k old h)); each = λ j i. ap (λ (l : List ℕ). get_or l j 0) e ∙ filled_at (place next p) k j old i }
+pub filled_starts : (next : ℕ → ℕ) (p k : ℕ) (old : List ℕ) {t : List ℕ} → t ≡ filled (place next p) k old → k ≤ length old → Starts next p k t
+filled_starts next p k old e h = record { long = rw e (omega (arith, filled_length (place next p) k old h)); each = λ j i. ap (λ (l : List ℕ). get_or l j 0) e ∙ filled_at (place next p) k j old i }
 
 -- the loop that fills: nothing yet, one more, and that the table is as long as before
 pub filled_none : (f : ℕ → ℕ) (old : List ℕ) → old ≡ filled f 0 old
@@ -141,5 +141,5 @@ unfolding filled rows
 filled_on f i old {t} {v} e g h =
     ap (λ (l : List ℕ). set l i v) e
     ∙ ap (λ (l : List ℕ). set (rows f i ++ l) i v) (drop-cons old i 0 h)
-    ∙ set_at (rows f i) (get_or old i 0) (drop (suc i) old) v i (rows-length f i)
+    ∙ set_at (rows f i) (get_or old i 0) (drop (suc i) old) v i (rows_length f i)
     ∙ (rw (add-one, g) (sym (append_assoc (rows f i) (f i ∷ []) (drop (suc i) old))))

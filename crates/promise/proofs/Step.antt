@@ -12,7 +12,7 @@ use Rattle.meaning.specs.Tests.{◌and◌, ◌or◌, ◌is◌, agree, same, all,
 use Rattle.meaning.specs.Rules.{omit, others}
 use Rattle.meaning.proofs.Tests.{or_left}
 use Rattle.promise.specs.Place.{part}
-use Rattle.promise.proofs.Place.{part_none, part-cons}
+use Rattle.promise.proofs.Place.{part_none, part_cons}
 
 -- ---- two parts
 
@@ -20,9 +20,9 @@ pub yes_and : {a : Bool} (b : Bool) → a ≡ true → a and b ≡ b
 unfolding ◌and◌
 yes_and b e = rw e
 
-pub no-and : {a : Bool} (b : Bool) → a ≡ false → a and b ≡ false
+pub no_and : {a : Bool} (b : Bool) → a ≡ false → a and b ≡ false
 unfolding ◌and◌
-no-and b e = rw e
+no_and b e = rw e
 
 pub and_yes : (a : Bool) {b : Bool} → b ≡ true → a and b ≡ a
 unfolding ◌and◌
@@ -38,32 +38,32 @@ pub no_or : {a : Bool} (b : Bool) → a ≡ false → a or b ≡ b
 unfolding ◌or◌
 no_or b e = rw e
 
-pub is-of : {m n : ℕ} → m ≡ n → m is n ≡ true
+pub is_of : {m n : ℕ} → m ≡ n → m is n ≡ true
 unfolding ◌is◌
-is-of {m} {n} e = eq-eqb m n e
+is_of {m} {n} e = eq-eqb m n e
 
-pub is-not : {m n : ℕ} → (m ≡ n → ⊥) → m is n ≡ false
+pub is_not : {m n : ℕ} → (m ≡ n → ⊥) → m is n ≡ false
 unfolding ◌is◌
-is-not {m} {n} e = ne_eqb m n e
+is_not {m} {n} e = ne_eqb m n e
 
 -- what the code's test of two signs says
-pub signs-differ : (a b : Bool) → not (beq a b) ≡ true → agree a b ≡ false
+pub signs_differ : (a b : Bool) → not (beq a b) ≡ true → agree a b ≡ false
 unfolding agree
-signs-differ true true h = sym h
-signs-differ true false h = refl
-signs-differ false true h = refl
-signs-differ false false h = sym h
+signs_differ true true h = sym h
+signs_differ true false h = refl
+signs_differ false true h = refl
+signs_differ false false h = sym h
 
-pub signs-agree : (a b : Bool) → not (beq a b) ≡ false → agree a b ≡ true
+pub signs_agree : (a b : Bool) → not (beq a b) ≡ false → agree a b ≡ true
 unfolding agree
-signs-agree true true h = refl
-signs-agree true false h = sym h
-signs-agree false true h = sym h
-signs-agree false false h = refl
+signs_agree true true h = refl
+signs_agree true false h = sym h
+signs_agree false true h = sym h
+signs_agree false false h = refl
 
-pub named-no : {A : Type 0} {o : Option A} (f : A → Bool) → o ≡ none → named o f ≡ false
+pub named_no : {A : Type 0} {o : Option A} (f : A → Bool) → o ≡ none → named o f ≡ false
 unfolding named
-named-no f e = rw e
+named_no f e = rw e
 
 -- ---- one step along a list
 
@@ -77,41 +77,41 @@ module _ {A : Type 0} (P : A → Bool) {l : List A} where
   all_none e = rw e
 
   module _ {x : A} {m : List A} (e : l ≡ x ∷ m) where
-    pub any-yes : P x ≡ true → any P l ≡ true
+    pub any_yes : P x ≡ true → any P l ≡ true
     unfolding any
-    any-yes h = rw e (or_left _ h)
+    any_yes h = rw e (or_left _ h)
 
-    pub any-on : P x ≡ false → any P l ≡ any P m
+    pub any_on : P x ≡ false → any P l ≡ any P m
     unfolding any
-    any-on h = rw e (no_or _ h)
+    any_on h = rw e (no_or _ h)
 
-    pub all-on : P x ≡ true → all P l ≡ all P m
+    pub all_on : P x ≡ true → all P l ≡ all P m
     unfolding all
-    all-on h = rw e (yes_and _ h)
+    all_on h = rw e (yes_and _ h)
 
-    pub all-not : P x ≡ false → all P l ≡ false
+    pub all_not : P x ≡ false → all P l ≡ false
     unfolding all
-    all-not h = rw e (no-and _ h)
+    all_not h = rw e (no_and _ h)
 
 -- every element but number i; past the end that is every element
-pub others-none : {A : Type 0} {l : List A} (i : ℕ) → l ≡ [] → others l i ≡ []
+pub others_none : {A : Type 0} {l : List A} (i : ℕ) → l ≡ [] → others l i ≡ []
 unfolding others
-others-none i e = rw e
+others_none i e = rw e
 
-pub others-all : {A : Type 0} (l : List A) (i : ℕ) → length l ≤ i → others l i ≡ l
+pub others_all : {A : Type 0} (l : List A) (i : ℕ) → length l ≤ i → others l i ≡ l
 unfolding others
-others-all [] i h = refl
-others-all (x ∷ l) zero h = absurd (omega arith)
-others-all (x ∷ l) (suc i) h = ap (λ m. x ∷ m) (others-all l i (omega arith))
+others_all [] i h = refl
+others_all (x ∷ l) zero h = absurd (omega arith)
+others_all (x ∷ l) (suc i) h = ap (λ m. x ∷ m) (others_all l i (omega arith))
 
 module _ {A : Type 0} {l m : List A} {x : A} (e : l ≡ x ∷ m) (i : ℕ) where
-  pub others-first : i ≡ 0 → others l i ≡ m
+  pub others_first : i ≡ 0 → others l i ≡ m
   unfolding others
-  others-first h = rw (e, h)
+  others_first h = rw (e, h)
 
-  pub others-on : 0 < i → others l i ≡ x ∷ others m (i - 1)
+  pub others_on : 0 < i → others l i ≡ x ∷ others m (i - 1)
   unfolding others
-  others-on h = on (i - 1) (omega arith)
+  others_on h = on (i - 1) (omega arith)
     where
       on : (j : ℕ) → i ≡ suc j → others l i ≡ x ∷ others m j
       on j z = rw (e, z)
@@ -121,18 +121,18 @@ pub same_none : {l m : List ℕ} → l ≡ [] → m ≡ [] → same l m ≡ true
 unfolding same
 same_none e f = rw (e, f)
 
-pub same-short : {l m n : List ℕ} {y : ℕ} → l ≡ [] → m ≡ y ∷ n → same l m ≡ false
+pub same_short : {l m n : List ℕ} {y : ℕ} → l ≡ [] → m ≡ y ∷ n → same l m ≡ false
 unfolding same
-same-short e f = rw (e, f)
+same_short e f = rw (e, f)
 
 module _ {l m l' m' : List ℕ} {x y : ℕ} (e : l ≡ x ∷ l') (f : m ≡ y ∷ m') where
-  pub same-on : x ≡ y → same l m ≡ same l' m'
+  pub same_on : x ≡ y → same l m ≡ same l' m'
   unfolding same
-  same-on h = rw (e, f) (yes_and _ (is-of h))
+  same_on h = rw (e, f) (yes_and _ (is_of h))
 
   pub same_not : (x ≡ y → ⊥) → same l m ≡ false
   unfolding same
-  same_not h = rw (e, f) (no-and _ (is-not h))
+  same_not h = rw (e, f) (no_and _ (is_not h))
 
 pub same_length : (l m : List ℕ) → (length l ≡ length m → ⊥) → same l m ≡ false
 unfolding same
@@ -142,9 +142,9 @@ same_length (x ∷ l) [] h = refl
 same_length (x ∷ l) (y ∷ m) h = and_no (x is y) (same_length l m (λ e. h (ap suc e)))
 
 -- two parts of the words, as long as the code counts them
-pub same-differ : (ws vs : List ℕ) (p q k j : ℕ) → p + k ≤ length ws → q + j ≤ length vs → (k ≡ j → ⊥) → same (part ws p k) (part vs q j) ≡ false
+pub same_differ : (ws vs : List ℕ) (p q k j : ℕ) → p + k ≤ length ws → q + j ≤ length vs → (k ≡ j → ⊥) → same (part ws p k) (part vs q j) ≡ false
 unfolding part
-same-differ ws vs p q k j h g d =
+same_differ ws vs p q k j h g d =
     let a : length (take k (drop p ws)) ≡ k = simp (length-take, length-drop) (omega arith) in
     let b : length (take j (drop q vs)) ≡ j = simp (length-take, length-drop) (omega arith) in
     same_length _ _ (λ e. d (sym a ∙ e ∙ b))
@@ -155,18 +155,18 @@ same_end ws a m h {l} e = rw e (go m refl)
   where
     go : (n : ℕ) → m ≡ n → eqb n 0 ≡ same (part ws a n) []
     go zero z = sym (ap (λ x. same x []) (part_none ws a zero (omega arith)))
-    go (suc n) z = ne_eqb (suc n) 0 (λ y. omega (arith, y)) ∙ sym (ap (λ x. same x []) (part-cons ws a (suc n) (omega arith) (omega arith)))
+    go (suc n) z = ne_eqb (suc n) 0 (λ y. omega (arith, y)) ∙ sym (ap (λ x. same x []) (part_cons ws a (suc n) (omega arith) (omega arith)))
 
 -- a list without c
-pub omit-none : (c : ℕ) {l : List ℕ} → l ≡ [] → omit c l ≡ []
+pub omit_none : (c : ℕ) {l : List ℕ} → l ≡ [] → omit c l ≡ []
 unfolding omit keep
-omit-none c e = rw e
+omit_none c e = rw e
 
 module _ (c : ℕ) {l m : List ℕ} {x : ℕ} (e : l ≡ x ∷ m) where
-  pub omit-skip : x ≡ c → omit c l ≡ omit c m
+  pub omit_skip : x ≡ c → omit c l ≡ omit c m
   unfolding omit keep put
-  omit-skip h = rw e (simp (is-of h))
+  omit_skip h = rw e (simp (is_of h))
 
-  pub omit-keep : (x ≡ c → ⊥) → omit c l ≡ x ∷ omit c m
+  pub omit_keep : (x ≡ c → ⊥) → omit c l ≡ x ∷ omit c m
   unfolding omit keep put
-  omit-keep h = rw e (simp (is-not h))
+  omit_keep h = rw e (simp (is_not h))

@@ -1,6 +1,6 @@
 -- How the decoded papers lie in words (01, "The two papers").
 use Rattle.std.specs.Prelude.{ℕ, List, [], ◌∷◌, ◌++◌, Bool, true, false}
-use Rattle.words.specs.Code.{codeList, codeMany}
+use Rattle.words.specs.Code.{code_list, code_many}
 use Rattle.meaning.specs.Policy.{Clause}
 use Rattle.meaning.specs.Formula.{Formula, always, atom, neg, conj, disj}
 use Rattle.meaning.specs.Papers.{Entry, Marked, Dossier, Statement, Literal, Rule, probe, secret, clause, assumed, credential, cut, without, resolve, number, Line, Certificate, witness, proof}
@@ -11,39 +11,39 @@ bit true = 1
 bit false = 0
 
 -- "head, body count, body"
-abbrev pub codeClause : Clause → List ℕ
-codeClause c = c.head ∷ codeList c.body
+abbrev pub code_clause : Clause → List ℕ
+code_clause c = c.head ∷ code_list c.body
 
-abbrev pub codeMarked : Marked → List ℕ
-codeMarked m = bit m.visible ∷ codeClause m.clause
+abbrev pub code_marked : Marked → List ℕ
+code_marked m = bit m.visible ∷ code_clause m.clause
 
 -- "Formula words are in prefix order: below n an atom, 256 true, 257 not, 258 and, 259 or."
-unfoldable pub codeFormula : Formula → List ℕ
-codeFormula (atom a) = a ∷ []
-codeFormula always = 256 ∷ []
-codeFormula (neg f) = 257 ∷ codeFormula f
-codeFormula (conj f g) = 258 ∷ (codeFormula f ++ codeFormula g)
-codeFormula (disj f g) = 259 ∷ (codeFormula f ++ codeFormula g)
+unfoldable pub code_formula : Formula → List ℕ
+code_formula (atom a) = a ∷ []
+code_formula always = 256 ∷ []
+code_formula (neg f) = 257 ∷ code_formula f
+code_formula (conj f g) = 258 ∷ (code_formula f ++ code_formula g)
+code_formula (disj f g) = 259 ∷ (code_formula f ++ code_formula g)
 
 -- "credential count, credential numbers, formula length, formula words"
-abbrev pub codeEntry : Entry → List ℕ
-codeEntry e = codeList e.creds ++ codeList (codeFormula e.formula)
+abbrev pub code_entry : Entry → List ℕ
+code_entry e = code_list e.creds ++ code_list (code_formula e.formula)
 
 -- Labels, clauses, credentials, probes; "a count that must be 1, then the secret, laid out as a probe".
-unfoldable pub codeDossier : Dossier → List ℕ
-codeDossier D =
-    codeList D.labels
-    ++ (codeMany codeMarked D.clauses
-    ++ (codeMany codeClause D.creds
-    ++ (codeMany codeEntry D.probes
-    ++ codeMany codeEntry (D.secret ∷ []))))
+unfoldable pub code_dossier : Dossier → List ℕ
+code_dossier D =
+    code_list D.labels
+    ++ (code_many code_marked D.clauses
+    ++ (code_many code_clause D.creds
+    ++ (code_many code_entry D.probes
+    ++ code_many code_entry (D.secret ∷ []))))
 
 -- "sign, credential count, credential numbers, atom count, atoms, one atom"
-abbrev pub codeStatement : Statement → List ℕ
-codeStatement s = codeList s.creds ++ (codeList s.atoms ++ (s.atom ∷ []))
+abbrev pub code_statement : Statement → List ℕ
+code_statement s = code_list s.creds ++ (code_list s.atoms ++ (s.atom ∷ []))
 
-abbrev pub codeLiteral : Literal → List ℕ
-codeLiteral l = bit l.positive ∷ codeStatement l.said
+abbrev pub code_literal : Literal → List ℕ
+code_literal l = bit l.positive ∷ code_statement l.said
 
 -- the rule's data words
 abbrev pub data_of : Rule → List ℕ
@@ -57,10 +57,10 @@ data_of (without c i j k) = c ∷ i ∷ j ∷ k ∷ []
 data_of (resolve u v i j) = u ∷ v ∷ i ∷ j ∷ []
 
 -- "rule, the rule's data words, literal count, literals"
-abbrev pub codeLine : Line → List ℕ
-codeLine l = number l.rule ∷ (data_of l.rule ++ codeMany codeLiteral l.literals)
+abbrev pub code_line : Line → List ℕ
+code_line l = number l.rule ∷ (data_of l.rule ++ code_many code_literal l.literals)
 
 -- "Witness: 1, clause count, clauses as credentials are laid out." "Proof: 2, line count, lines."
-unfoldable pub codeCertificate : Certificate → List ℕ
-codeCertificate (witness W) = 1 ∷ codeMany codeClause W
-codeCertificate (proof lines) = 2 ∷ codeMany codeLine lines
+unfoldable pub code_certificate : Certificate → List ℕ
+code_certificate (witness W) = 1 ∷ code_many code_clause W
+code_certificate (proof lines) = 2 ∷ code_many code_line lines

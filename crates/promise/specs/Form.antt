@@ -5,7 +5,7 @@ use Rattle.meaning.specs.Tests.{◌∈◌}
 use Rattle.meaning.specs.Policy.{Clause}
 use Rattle.meaning.specs.Formula.{Formula, always, atom, neg, conj, disj}
 use Rattle.meaning.specs.Papers.{Entry, Marked, Dossier, Statement, Literal, Line, Certificate, witness, proof}
-use Rattle.promise.specs.Code.{codeFormula, codeCertificate}
+use Rattle.promise.specs.Code.{code_formula, code_certificate}
 
 -- at most so many numbers, below hi, strictly rising
 pub record ListForm (most hi : ℕ) (l : List ℕ) : Type 0 where
@@ -30,7 +30,7 @@ FormulaForm n (suc d) (disj f g) = FormulaForm n d f × FormulaForm n d g
 pub record EntryForm (n m : ℕ) (e : Entry) : Type 0 where
   pub creds : ListForm 32 m e.creds
   pub formula : FormulaForm n 16 e.formula
-  pub short : length (codeFormula e.formula) ≤ 64
+  pub short : length (code_formula e.formula) ≤ 64
 
 -- "n (1 to 64), then n labels, strictly rising"
 pub record LabelsForm (ls : List ℕ) : Type 0 where
@@ -91,4 +91,4 @@ PartsForm n m (proof lines) = SectionForm 1 1024 (LineForm n m) lines
 -- "Certificate, at most 24,000 words."
 pub record CertificateForm (n m : ℕ) (C : Certificate) : Type 0 where
   pub parts : PartsForm n m C
-  pub short : length (codeCertificate C) ≤ 24000
+  pub short : length (code_certificate C) ≤ 24000

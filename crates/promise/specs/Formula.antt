@@ -8,22 +8,22 @@ use Rattle.promise.specs.Place.{part, Kind}
 use Rattle.promise.specs.declared.EntryAt.{EntryAt}
 
 -- where the formula that begins at p ends, if it is at most so deep
-unfoldable pub formulaEnd : ℕ → List ℕ → ℕ → ℕ
-formulaEnd zero ws p = p
-formulaEnd (suc d) ws p =
+unfoldable pub formula_end : ℕ → List ℕ → ℕ → ℕ
+formula_end zero ws p = p
+formula_end (suc d) ws p =
     choose (ltb (get_or ws p 0) 257) (p + 1)
-    (choose (get_or ws p 0 is 257) (formulaEnd d ws (p + 1))
-    (formulaEnd d ws (formulaEnd d ws (p + 1))))
+    (choose (get_or ws p 0 is 257) (formula_end d ws (p + 1))
+    (formula_end d ws (formula_end d ws (p + 1))))
 
 -- the formula that begins at p
-unfoldable pub formulaAt : ℕ → List ℕ → ℕ → Formula
-formulaAt zero ws p = always
-formulaAt (suc d) ws p =
+unfoldable pub formula_at : ℕ → List ℕ → ℕ → Formula
+formula_at zero ws p = always
+formula_at (suc d) ws p =
     choose (ltb (get_or ws p 0) 256) (atom (get_or ws p 0))
     (choose (get_or ws p 0 is 256) always
-    (choose (get_or ws p 0 is 257) (neg (formulaAt d ws (p + 1)))
-    (choose (get_or ws p 0 is 258) (conj (formulaAt d ws (p + 1)) (formulaAt d ws (formulaEnd d ws (p + 1))))
-    (disj (formulaAt d ws (p + 1)) (formulaAt d ws (formulaEnd d ws (p + 1)))))))
+    (choose (get_or ws p 0 is 257) (neg (formula_at d ws (p + 1)))
+    (choose (get_or ws p 0 is 258) (conj (formula_at d ws (p + 1)) (formula_at d ws (formula_end d ws (p + 1))))
+    (disj (formula_at d ws (p + 1)) (formula_at d ws (formula_end d ws (p + 1)))))))
 
 -- its words are there, it is at most so deep, and its atoms are below n
 abbrev pub WhereTrue : Bool → Type 0 → Type 0
@@ -34,7 +34,7 @@ unfoldable pub FormulaFits : ℕ → ℕ → List ℕ → ℕ → Type 0
 FormulaFits n zero ws p = ⊥
 FormulaFits n (suc d) ws p =
     (p < length ws) × WhereTrue (ltb (get_or ws p 0) 256) (get_or ws p 0 < n)
-    × WhereTrue (ltb 256 (get_or ws p 0)) (FormulaFits n d ws (p + 1) × WhereTrue (ltb 257 (get_or ws p 0)) (FormulaFits n d ws (formulaEnd d ws (p + 1))))
+    × WhereTrue (ltb 256 (get_or ws p 0)) (FormulaFits n d ws (p + 1) × WhereTrue (ltb 257 (get_or ws p 0)) (FormulaFits n d ws (formula_end d ws (p + 1))))
 
 -- count of credentials, credentials, length, formula
 abbrev pub entry_at : List ℕ → ℕ → EntryAt
@@ -47,14 +47,14 @@ entry_at ws p =
     }
 
 abbrev pub entry_of : List ℕ → EntryAt → Entry
-entry_of ws e = record { creds = part ws e.creds e.count; formula = formulaAt 16 ws e.formula }
+entry_of ws e = record { creds = part ws e.creds e.count; formula = formula_at 16 ws e.formula }
 
 -- n is the number of atoms, m that of the credentials
 pub record EntryFits (n m : ℕ) (ws : List ℕ) (p : ℕ) : Type 0 where
   pub ends : (entry_at ws p).next ≤ length ws
   pub creds : (x : ℕ) → x ∈ part ws (entry_at ws p).creds (entry_at ws p).count → x < m
   pub formula : FormulaFits n 16 ws (entry_at ws p).formula
-  pub form : FormulaForm n 16 (formulaAt 16 ws (entry_at ws p).formula)
+  pub form : FormulaForm n 16 (formula_at 16 ws (entry_at ws p).formula)
 
 abbrev pub entry : ℕ → ℕ → Kind Entry
 entry n m = record { read = λ ws p. entry_of ws (entry_at ws p); next = λ ws p. (entry_at ws p).next; ok = EntryFits n m }

@@ -1,8 +1,8 @@
 -- Where the sections of a sound paper stand, and how many things each has.
 use Rattle.std.specs.Prelude.{ℕ, ◌+◌, ◌≤◌, List, length}
-use Rattle.words.specs.Code.{codeList, codeMany}
+use Rattle.words.specs.Code.{code_list, code_many}
 use Rattle.meaning.specs.Papers.{Dossier, Certificate, witness, proof}
-use Rattle.promise.specs.Code.{codeMarked, codeClause, codeEntry}
+use Rattle.promise.specs.Code.{code_marked, code_clause, code_entry}
 use Rattle.promise.specs.Place.{part, many, Fit}
 use Rattle.promise.specs.Clause.{credential, marked}
 use Rattle.promise.specs.Formula.{entry_at, entry_of, entry, EntryFits}
@@ -12,39 +12,39 @@ use Rattle.promise.specs.declared.Proposal.{Proposal}
 use Rattle.promise.specs.declared.Proposal.TheVariants.{Witness, Proof}
 
 -- where each section's count stands; its first thing stands after it
-abbrev pub clausesAt : Dossier → ℕ
-clausesAt D = length (codeList D.labels)
+abbrev pub clauses_at : Dossier → ℕ
+clauses_at D = length (code_list D.labels)
 
-abbrev pub credsAt : Dossier → ℕ
-credsAt D = clausesAt D + length (codeMany codeMarked D.clauses)
+abbrev pub creds_at : Dossier → ℕ
+creds_at D = clauses_at D + length (code_many code_marked D.clauses)
 
-abbrev pub probesAt : Dossier → ℕ
-probesAt D = credsAt D + length (codeMany codeClause D.creds)
+abbrev pub probes_at : Dossier → ℕ
+probes_at D = creds_at D + length (code_many code_clause D.creds)
 
-abbrev pub secretAt : Dossier → ℕ
-secretAt D = probesAt D + length (codeMany codeEntry D.probes)
+abbrev pub secret_at : Dossier → ℕ
+secret_at D = probes_at D + length (code_many code_entry D.probes)
 
 unfoldable pub layout_of : Dossier → Layout
 layout_of D =
     record {
       atoms = length D.labels;
-      clauses = clausesAt D + 1;
+      clauses = clauses_at D + 1;
       nclauses = length D.clauses;
-      creds = credsAt D + 1;
+      creds = creds_at D + 1;
       ncreds = length D.creds;
-      probes = probesAt D + 1;
+      probes = probes_at D + 1;
       nprobes = length D.probes;
-      secret = secretAt D + 1;
+      secret = secret_at D + 1;
     }
 
 -- a witness's clauses or a proof's lines begin at place 2
-unfoldable pub proposalOf : Certificate → Proposal
-proposalOf (witness W) = Witness (length W)
-proposalOf (proof lines) = Proof (length lines)
+unfoldable pub proposal_of : Certificate → Proposal
+proposal_of (witness W) = Witness (length W)
+proposal_of (proof lines) = Proof (length lines)
 
 -- What the words say with that layout, for any words: the second half of the promise. (`Decoded`: of a sound paper's words it is the paper.)
-unfoldable pub dossierAt : List ℕ → Layout → Dossier
-dossierAt ws o =
+unfoldable pub dossier_at : List ℕ → Layout → Dossier
+dossier_at ws o =
     record {
       labels = part ws 1 o.atoms;
       clauses = many (marked o.atoms) ws o.clauses o.nclauses;
@@ -56,8 +56,8 @@ dossierAt ws o =
 -- the words of each section are there
 pub record Laid (ws : List ℕ) (o : Layout) : Type 0 where
   pub atoms : o.atoms ≤ 64
-  pub fewClauses : o.nclauses ≤ 128
-  pub fewCreds : o.ncreds ≤ 32
+  pub few_clauses : o.nclauses ≤ 128
+  pub few_creds : o.ncreds ≤ 32
   pub few : o.nprobes ≤ 64
   pub clauses : Fit (marked o.atoms) ws o.clauses o.nclauses
   pub creds : Fit (credential o.atoms) ws o.creds o.ncreds
@@ -65,9 +65,9 @@ pub record Laid (ws : List ℕ) (o : Layout) : Type 0 where
   pub secret : EntryFits o.atoms o.ncreds ws o.secret
 
 -- n is the number of atoms
-unfoldable pub certificateAt : ℕ → List ℕ → Proposal → Certificate
-certificateAt n ws (Witness k) = witness (many (credential n) ws 2 k)
-certificateAt n ws (Proof k) = proof (many line ws 2 k)
+unfoldable pub certificate_at : ℕ → List ℕ → Proposal → Certificate
+certificate_at n ws (Witness k) = witness (many (credential n) ws 2 k)
+certificate_at n ws (Proof k) = proof (many line ws 2 k)
 
 unfoldable pub Proposed : ℕ → List ℕ → Proposal → Type 0
 Proposed n ws (Witness k) = Fit (credential n) ws 2 k

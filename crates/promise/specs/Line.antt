@@ -10,8 +10,8 @@ use Rattle.promise.specs.declared.LineAt.{LineAt}
 abbrev pub atoms_at : List ℕ → ℕ → ℕ
 atoms_at ws p = p + 2 + get_or ws (p + 1) 0
 
-abbrev pub literalAt : List ℕ → ℕ → LiteralAt
-literalAt ws p =
+abbrev pub literal_at : List ℕ → ℕ → LiteralAt
+literal_at ws p =
     record {
       positive = get_or ws p 0 is 1;
       creds = p + 2;
@@ -26,8 +26,8 @@ literalAt ws p =
 abbrev pub said_of : List ℕ → LiteralAt → Statement
 said_of ws v = record { creds = part ws v.creds v.ncreds; atoms = part ws v.atoms v.natoms; atom = v.atom }
 
-abbrev pub literalOf : List ℕ → LiteralAt → Literal
-literalOf ws v = record { positive = v.positive; said = said_of ws v }
+abbrev pub literal_of : List ℕ → LiteralAt → Literal
+literal_of ws v = record { positive = v.positive; said = said_of ws v }
 
 -- the words of its two lists are there
 pub record Held (ws : List ℕ) (v : LiteralAt) : Type 0 where
@@ -35,11 +35,11 @@ pub record Held (ws : List ℕ) (v : LiteralAt) : Type 0 where
   pub atoms : v.atoms + v.natoms ≤ length ws
 
 abbrev pub literal : Kind Literal
-literal = record { read = λ ws p. literalOf ws (literalAt ws p); next = λ ws p. (literalAt ws p).next; ok = λ ws p. (literalAt ws p).next ≤ length ws }
+literal = record { read = λ ws p. literal_of ws (literal_at ws p); next = λ ws p. (literal_at ws p).next; ok = λ ws p. (literal_at ws p).next ≤ length ws }
 
 -- how many data words a rule has: 1, none, 2, 1, 2, 2, 4, 4
-unfoldable pub dataCount : ℕ → ℕ
-dataCount r = choose (ltb r 3) (choose (r is 1) 1 0) (choose (r is 4) 1 (choose (ltb r 7) 2 4))
+unfoldable pub data_count : ℕ → ℕ
+data_count r = choose (ltb r 3) (choose (r is 1) 1 0) (choose (r is 4) 1 (choose (ltb r 7) 2 4))
 
 -- rule, data words, count of literals, literals
 abbrev pub line_at : List ℕ → ℕ → LineAt
@@ -47,13 +47,13 @@ line_at ws p =
     record {
       rule = get_or ws p 0;
       args = p + 1;
-      literals = p + 1 + dataCount (get_or ws p 0) + 1;
-      count = get_or ws (p + 1 + dataCount (get_or ws p 0)) 0;
+      literals = p + 1 + data_count (get_or ws p 0) + 1;
+      count = get_or ws (p + 1 + data_count (get_or ws p 0)) 0;
     }
 
 -- rule number r with its data words from p on
-unfoldable pub ruleOf : List ℕ → ℕ → ℕ → Rule
-ruleOf ws r p =
+unfoldable pub rule_of : List ℕ → ℕ → ℕ → Rule
+rule_of ws r p =
     choose (r is 1) (probe (get_or ws p 0))
     (choose (r is 2) secret
     (choose (r is 3) (clause (get_or ws p 0) (get_or ws (p + 1) 0))
@@ -63,11 +63,11 @@ ruleOf ws r p =
     (choose (r is 7) (without (get_or ws p 0) (get_or ws (p + 1) 0) (get_or ws (p + 2) 0) (get_or ws (p + 3) 0))
     (resolve (get_or ws p 0) (get_or ws (p + 1) 0) (get_or ws (p + 2) 0) (get_or ws (p + 3) 0))))))))
 
-abbrev pub literalsOf : List ℕ → LineAt → List Literal
-literalsOf ws v = many literal ws v.literals v.count
+abbrev pub literals_of : List ℕ → LineAt → List Literal
+literals_of ws v = many literal ws v.literals v.count
 
 abbrev pub line_of : List ℕ → LineAt → Line
-line_of ws v = record { rule = ruleOf ws v.rule v.args; literals = literalsOf ws v }
+line_of ws v = record { rule = rule_of ws v.rule v.args; literals = literals_of ws v }
 
 pub record LineFits (ws : List ℕ) (p : ℕ) : Type 0 where
   pub rule : 0 < (line_at ws p).rule

@@ -1,12 +1,12 @@
 // What lies at a place of a sound paper: the reader's promise to the layers above, which never add up places themselves.
 ghost use Rattle.std.specs.Prelude.{◌≡◌, ◌+◌, ◌≤◌, ◌<◌, length, get_or};
 ghost use Rattle.meaning.specs.Tests.{same};
-ghost use Rattle.meaning.specs.Rules.{sameStatement};
+ghost use Rattle.meaning.specs.Rules.{same_statement};
 ghost use Rattle.promise.specs.Place.{part, place, Fit, filled};
 ghost use Rattle.promise.specs.Thing.{next_of, ok_of, FitOf};
-ghost use Rattle.promise.specs.Clause.{clauseAt, markedAt};
+ghost use Rattle.promise.specs.Clause.{clause_at, marked_at};
 ghost use Rattle.promise.specs.Formula.{entry_at};
-ghost use Rattle.promise.specs.Line.{literalAt, said_of, Held, dataCount, line_at, literal};
+ghost use Rattle.promise.specs.Line.{literal_at, said_of, Held, data_count, line_at, literal};
 
 // A clause: its head, where its body stands and how many atoms it has, and the place after it.
 #[derive(Drop)]
@@ -93,8 +93,8 @@ pub fn word(s: &[u16], p: usize) -> usize
 
 // The clause or credential at p.
 pub fn clause_at(s: &[u16], p: usize) -> ClauseAt
-    requires { (clauseAt s.now p).next ≤ length s.now }
-    ensures { result ≡ clauseAt s.now p }
+    requires { (clause_at s.now p).next ≤ length s.now }
+    ensures { result ≡ clause_at s.now p }
 {
     let k = word(s, p + 1);
     ClauseAt {
@@ -107,8 +107,8 @@ pub fn clause_at(s: &[u16], p: usize) -> ClauseAt
 
 // The dossier's clause at p.
 pub fn marked_at(s: &[u16], p: usize) -> MarkedAt
-    requires { (markedAt s.now p).clause.next ≤ length s.now }
-    ensures { result ≡ markedAt s.now p }
+    requires { (marked_at s.now p).clause.next ≤ length s.now }
+    ensures { result ≡ marked_at s.now p }
 {
     let c = clause_at(s, p + 1);
     MarkedAt {
@@ -135,8 +135,8 @@ pub fn entry_at(s: &[u16], p: usize) -> EntryAt
 
 // The literal at p.
 pub fn literal_at(s: &[u16], p: usize) -> LiteralAt
-    requires { (literalAt s.now p).next ≤ length s.now }
-    ensures { result ≡ literalAt s.now p }
+    requires { (literal_at s.now p).next ≤ length s.now }
+    ensures { result ≡ literal_at s.now p }
 {
     let n = word(s, p + 1);
     let q = p + 2 + n;
@@ -155,7 +155,7 @@ pub fn literal_at(s: &[u16], p: usize) -> LiteralAt
 
 // How many data words the rule has.
 pub fn data_count(r: usize) -> usize
-    ensures { (result ≡ dataCount r) × (result ≤ 4) }
+    ensures { (result ≡ data_count r) × (result ≤ 4) }
 {
     if r < 3 {
         if r == 1 {
@@ -269,7 +269,7 @@ pub fn same_words(s: &[u16], p: usize, k: usize, t: &[u16], q: usize, j: usize) 
 // Whether m, a literal in s, and l, one in t, speak of one statement.
 pub fn same_said(s: &[u16], m: LiteralAt, t: &[u16], l: LiteralAt) -> bool
     requires { Held s.now m × Held t.now l }
-    ensures { result ≡ sameStatement (said_of s.now m) (said_of t.now l) }
+    ensures { result ≡ same_statement (said_of s.now m) (said_of t.now l) }
 {
     if m.atom != l.atom {
         return false;

@@ -6,29 +6,29 @@ use native.Mathlib.Omega.{arith}
 use lib.ListN.{length, take, drop}
 use Rattle.reply.specs.declared.Reply.{Reply}
 use Rattle.reply.specs.declared.Verdict.{Verdict}
-use Rattle.reply.specs.Shown.{ofPaper, shownOf}
+use Rattle.reply.specs.Shown.{of_paper, shown_of}
 use Rattle.reply.specs.Answer.{accepted}
 use Rattle.reply.proofs.Part.{fits, counted, unfit}
 
 module _ (d c : List ℕ) (reply : Reply) where
   -- the paper that the reply names
   abbrev named : List ℕ
-  named = ofPaper reply.paper d c
+  named = of_paper reply.paper d c
 
   -- where its words fit: those words, and as many as it says
-  pub shown-fits : reply.place + reply.count ≤ length named → shownOf d c reply ≡ take reply.count (drop reply.place named)
-  unfolding shownOf
-  shown-fits h = fits named reply.place reply.count h
+  pub shown_fits : reply.place + reply.count ≤ length named → shown_of d c reply ≡ take reply.count (drop reply.place named)
+  unfolding shown_of
+  shown_fits h = fits named reply.place reply.count h
 
-  pub shown-count : reply.place + reply.count ≤ length named → length (shownOf d c reply) ≡ reply.count
-  unfolding shownOf
-  shown-count h = counted named reply.place reply.count h
+  pub shown_count : reply.place + reply.count ≤ length named → length (shown_of d c reply) ≡ reply.count
+  unfolding shown_of
+  shown_count h = counted named reply.place reply.count h
 
   -- where they don't: no word
-  pub shown-unfit : length named < reply.place + reply.count → shownOf d c reply ≡ []
-  unfolding shownOf
-  shown-unfit h = unfit named reply.place reply.count h
+  pub shown_unfit : length named < reply.place + reply.count → shown_of d c reply ≡ []
+  unfolding shown_of
+  shown_unfit h = unfit named reply.place reply.count h
 
 -- an acceptance shows no word
-pub shown-accepted : (d c : List ℕ) (v : Verdict) → shownOf d c (accepted v) ≡ []
-shown-accepted d c v = shown-fits d c (accepted v) (omega arith)
+pub shown_accepted : (d c : List ℕ) (v : Verdict) → shown_of d c (accepted v) ≡ []
+shown_accepted d c v = shown_fits d c (accepted v) (omega arith)

@@ -9,19 +9,19 @@ use Rattle.reply.specs.declared.Written.TheVariants.{Count, Refused}
 use Rattle.reply.specs.Part.{part_of, part_at}
 
 -- 'the paper's name': the one of the dossier d and the certificate c that it names
-abbrev pub ofPaper : {A : Type 0} → Paper → A → A → A
-ofPaper Dossier d c = d
-ofPaper Certificate d c = c
+abbrev pub of_paper : {A : Type 0} → Paper → A → A → A
+of_paper Dossier d c = d
+of_paper Certificate d c = c
 
 -- the words of the part that a reply shows
-unfoldable pub shownOf : List ℕ → List ℕ → Reply → List ℕ
-shownOf d c reply = part_of (ofPaper reply.paper d c) reply.place reply.count
+unfoldable pub shown_of : List ℕ → List ℕ → Reply → List ℕ
+shown_of d c reply = part_of (of_paper reply.paper d c) reply.place reply.count
 
 -- and those of what an entry that writes a table answers: its refusal's; a count shows none
-abbrev pub shownBy : List ℕ → List ℕ → Written → List ℕ
-shownBy d c (Count k) = []
-shownBy d c (Refused reply) = shownOf d c reply
+abbrev pub shown_by : List ℕ → List ℕ → Written → List ℕ
+shown_by d c (Count k) = []
+shown_by d c (Refused reply) = shown_of d c reply
 
 -- where in memory the part begins
-unfoldable pub shownAt : Bor (List ℕ) → Bor (List ℕ) → Reply → ℕ × ℕ
-shownAt d c reply = part_at (ofPaper reply.paper d c) reply.place reply.count
+unfoldable pub shown_at : Bor (List ℕ) → Bor (List ℕ) → Reply → ℕ × ℕ
+shown_at d c reply = part_at (of_paper reply.paper d c) reply.place reply.count

@@ -1,7 +1,7 @@
 // What the judge answers, and the part of a paper that an answer shows.
 ghost use Rattle.std.specs.Prelude.{◌≡◌};
 ghost use Rattle.reply.specs.Part.{part_of, part_at};
-ghost use Rattle.reply.specs.Shown.{shownOf, shownAt};
+ghost use Rattle.reply.specs.Shown.{shown_of, shown_at};
 
 #[derive(Drop)]
 pub enum Paper {
@@ -49,8 +49,8 @@ fn part_of(s: &[u16], place: usize, count: usize) -> &[u16]
 
 // The part of the dossier or of the certificate that the reply shows: the lent words themselves, at their place in memory.
 pub fn shown<'a>(dossier: &'a [u16], certificate: &'a [u16], reply: Reply) -> &'a [u16]
-    ensures { (result.now ≡ shownOf dossier.now certificate.now reply)
-        × (result.ref_ptr ≡ shownAt dossier.entry certificate.entry reply) }
+    ensures { (result.now ≡ shown_of dossier.now certificate.now reply)
+        × (result.ref_ptr ≡ shown_at dossier.entry certificate.entry reply) }
 {
     let paper = reply.paper;
     let place = reply.place;

@@ -65,76 +65,76 @@ OneTable {K} {A} {X} {E} table Post = (κs : K) (a : A) (x y : X) (e f : E) → 
 pub record NoSlack : Type 0 where
   -- judging
   pub judge : OneReply judging-judge.Post
-  pub judgeTable : OneTable (λ e. e.1.1.0) judging-judge.Post
+  pub judge_table : OneTable (λ e. e.1.1.0) judging-judge.Post
   pub answers : OneReply judging-answers.Post
-  pub answersTable : OneTable (λ e. e.1.0) judging-answers.Post
+  pub answers_table : OneTable (λ e. e.1.0) judging-answers.Post
   -- verdict, lines
-  pub judgeSound : OneReply verdict-judge-sound.Post
-  pub judgeSoundTable : OneTable (λ e. e.1.1.1.1.0) verdict-judge-sound.Post
-  pub lineFollows : OneReply lines-line-follows.Post
+  pub judge_sound : OneReply verdict-judge-sound.Post
+  pub judge_sound_table : OneTable (λ e. e.1.1.1.1.0) verdict-judge-sound.Post
+  pub line_follows : OneReply lines-line-follows.Post
   -- evaluation
   pub answer_in : OneReply evaluation-answer-in.Post
-  pub answerAt : OneReply evaluation-answer-at.Post
+  pub answer_at : OneReply evaluation-answer-at.Post
   pub known : OneReply evaluation-known.Post
-  pub lastOf : OneReply evaluation-last-of.Post
-  pub widenTable : OneTable (λ e. e.1.0) evaluation-widen.Post
-  pub roundsTable : OneTable (λ e. e.1.1.1.1.1.1.0) evaluation-rounds-at.Post
+  pub last_of : OneReply evaluation-last-of.Post
+  pub widen_table : OneTable (λ e. e.1.0) evaluation-widen.Post
+  pub rounds_table : OneTable (λ e. e.1.1.1.1.1.1.0) evaluation-rounds-at.Post
   pub word_of : OneReply evaluation-word-of.Post
-  pub answeredTable : OneTable (λ e. e.1.1.1.1.1.0) evaluation-answers.Post
-  pub ownAnswers : OneReply evaluation-own-answers.Post
-  pub ownAnswersTable : OneTable (λ e. e.1.1.1.1.1.0) evaluation-own-answers.Post
+  pub answered_table : OneTable (λ e. e.1.1.1.1.1.0) evaluation-answers.Post
+  pub own_answers : OneReply evaluation-own-answers.Post
+  pub own_answers_table : OneTable (λ e. e.1.1.1.1.1.0) evaluation-own-answers.Post
   -- certificate, dossier
   pub certificate : OneReply certificate-certificate.Post
   pub dossier : OneReply dossier-dossier.Post
-  pub sectionAfter : OneReply dossier-section-after.Post
-  pub clauseRead : OneReply dossier-clause-at.Post
+  pub section_after : OneReply dossier-section-after.Post
+  pub clause_read : OneReply dossier-clause-at.Post
   -- promise
   pub word : OneReply promise-word.Post
-  pub clauseAt : OneReply promise-clause-at.Post
-  pub markedAt : OneReply promise-marked-at.Post
+  pub clause_at : OneReply promise-clause-at.Post
+  pub marked_at : OneReply promise-marked-at.Post
   pub entry_at : OneReply promise-entry-at.Post
-  pub literalAt : OneReply promise-literal-at.Post
+  pub literal_at : OneReply promise-literal-at.Post
   pub line_at : OneReply promise-line-at.Post
-  pub dataCount : OneReply promise-data-count.Post
-  pub afterLiterals : OneReply promise-after-literals.Post
+  pub data_count : OneReply promise-data-count.Post
+  pub after_literals : OneReply promise-after-literals.Post
   pub next_at : OneReply promise-next-at.Post
-  pub startsTable : OneTable (λ e. e.1.1.1.1.0) promise-starts.Post
+  pub starts_table : OneTable (λ e. e.1.1.1.1.0) promise-starts.Post
   pub same_words : OneReply promise-same-words.Post
-  pub sameSaid : OneReply promise-same-said.Post
+  pub same_said : OneReply promise-same-said.Post
   -- words
   pub word_in : OneReply words-word-in.Post
-  pub risingWords : OneReply words-rising-words.Post
-  pub listAt : OneReply words-list-at.Post
+  pub rising_words : OneReply words-rising-words.Post
+  pub list_at : OneReply words-list-at.Post
   -- reply: the words, and their place in memory
-  pub shownWords : OneOf (λ x. x.now) reply-shown.Post
-  pub shownPlace : OneOf (λ x. x.ref_ptr) reply-shown.Post
+  pub shown_words : OneOf (λ x. x.now) reply-shown.Post
+  pub shown_place : OneOf (λ x. x.ref_ptr) reply-shown.Post
   -- text
   pub split : OneReply text-split.Post
-  pub wordsTable : OneTable (λ e. e.1.0) text-words.Post
-  pub replyText : OneReply text-reply-text.Post
-  pub replyTextTable : OneTable (λ e. e.1.0) text-reply-text.Post
+  pub words_table : OneTable (λ e. e.1.0) text-words.Post
+  pub reply_text : OneReply text-reply-text.Post
+  pub reply_text_table : OneTable (λ e. e.1.0) text-reply-text.Post
   pub line : OneReply text-line.Post
-  pub lineTable : OneTable (λ e. e.1.0) text-line.Post
-  pub inputLine : OneReply text-input-line.Post
-  pub inputLineTable : OneTable (λ e. e.0) text-input-line.Post
-  pub textWord : OneReply text-word-at.Post
+  pub line_table : OneTable (λ e. e.1.0) text-line.Post
+  pub input_line : OneReply text-input-line.Post
+  pub input_line_table : OneTable (λ e. e.0) text-input-line.Post
+  pub text_word : OneReply text-word-at.Post
   pub write : OneReply text-write.Post
-  pub writeTable : OneTable (λ e. e.1.0) text-write.Post
+  pub write_table : OneTable (λ e. e.1.0) text-write.Post
   pub digits : OneReply text-digits.Post
-  pub digitsTable : OneTable (λ e. e.1.1.0) text-digits.Post
+  pub digits_table : OneTable (λ e. e.1.1.0) text-digits.Post
   -- printed
-  pub papersLine : OneReply printed-papers-line.Post
-  pub papersLineTable : OneTable (λ e. e.1.1.0) printed-papers-line.Post
-  pub papersAt : OneReply printed-papers-at.Post
-  pub papersAtTable : OneTable (λ e. e.1.1.1.1.0) printed-papers-at.Post
-  pub stdinLine : OneReply printed-stdin-line.Post
-  pub stdinLineTable : OneTable (λ e. e.1.1.0) printed-stdin-line.Post
-  pub stdinWords : OneTable (λ e. e.1.0) printed-stdin-line.Post
-  pub answersLine : OneReply printed-answers-line.Post
-  pub answersLineTable : OneTable (λ e. e.1.1.0) printed-answers-line.Post
-  pub answersLineAnswers : OneTable (λ e. e.1.0) printed-answers-line.Post
-  pub roundsLine : OneReply printed-rounds-line.Post
-  pub roundsLineTable : OneTable (λ e. e.1.1.1.0) printed-rounds-line.Post
-  pub roundsLineRounds : OneTable (λ e. e.1.1.0) printed-rounds-line.Post
-  pub shownLine : OneReply printed-shown-line.Post
-  pub shownLineTable : OneTable (λ e. e.1.1.1.1.1.0) printed-shown-line.Post
+  pub papers_line : OneReply printed-papers-line.Post
+  pub papers_line_table : OneTable (λ e. e.1.1.0) printed-papers-line.Post
+  pub papers_at : OneReply printed-papers-at.Post
+  pub papers_at_table : OneTable (λ e. e.1.1.1.1.0) printed-papers-at.Post
+  pub stdin_line : OneReply printed-stdin-line.Post
+  pub stdin_line_table : OneTable (λ e. e.1.1.0) printed-stdin-line.Post
+  pub stdin_words : OneTable (λ e. e.1.0) printed-stdin-line.Post
+  pub answers_line : OneReply printed-answers-line.Post
+  pub answers_line_table : OneTable (λ e. e.1.1.0) printed-answers-line.Post
+  pub answers_line_answers : OneTable (λ e. e.1.0) printed-answers-line.Post
+  pub rounds_line : OneReply printed-rounds-line.Post
+  pub rounds_line_table : OneTable (λ e. e.1.1.1.0) printed-rounds-line.Post
+  pub rounds_line_rounds : OneTable (λ e. e.1.1.0) printed-rounds-line.Post
+  pub shown_line : OneReply printed-shown-line.Post
+  pub shown_line_table : OneTable (λ e. e.1.1.1.1.1.0) printed-shown-line.Post

@@ -41,12 +41,12 @@ pub record Unaltered : Type 0 where
 pub record Promised : Type 0 where
   -- the contracts are the table
   pub table : (f : Judging) → Keeps f ↔ Tabled f
-  pub answersTable : (g : Answering) → KeepsAnswers g ↔ AnswersTabled g
+  pub answers_table : (g : Answering) → KeepsAnswers g ↔ AnswersTabled g
   -- whatever keeps them meets the demands and the cases, and demand 3 is about something
   pub demands : (f : Judging) (g : Answering) → Keeps f → KeepsAnswers g → Demand1 f g × Demand2 f × Demand3 f × CasesHold f g × NotEmpty f
   pub unaltered : Unaltered
   -- there is such a judge, and the contracts allow nothing else than what it gives
   pub judge : (f : Judging) × Keeps f
-  pub judgeOnly : (f : Judging) → Keeps f → AllowsOnly (λ a. f a.0.now a.1.0.now a.1.1.0.now) (λ e. e.1.1.0) judge-contract.Post
+  pub judge_only : (f : Judging) → Keeps f → AllowsOnly (λ a. f a.0.now a.1.0.now a.1.1.0.now) (λ e. e.1.1.0) judge-contract.Post
   pub answers : (g : Answering) × KeepsAnswers g
-  pub answersOnly : (g : Answering) → KeepsAnswers g → AllowsOnly (λ a. g a.0.now a.1.0.now) (λ e. e.1.0) answers-contract.Post
+  pub answers_only : (g : Answering) → KeepsAnswers g → AllowsOnly (λ a. g a.0.now a.1.0.now) (λ e. e.1.0) answers-contract.Post

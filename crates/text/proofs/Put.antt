@@ -12,16 +12,16 @@ use Rattle.reply.specs.declared.Paper.TheVariants.{Dossier, Certificate}
 use Rattle.reply.specs.declared.Verdict.{Verdict}
 use Rattle.reply.specs.declared.Verdict.TheVariants.{Opaque, Detectable, Refused}
 use Rattle.reply.specs.declared.Reply.{Reply}
-use Rattle.text.specs.Line.{put, digitsOf, name_of, decimal, refusalOf, verdictText, replyText, line_of, inputLine}
+use Rattle.text.specs.Line.{put, digits_of, name_of, decimal, refusal_of, verdict_text, reply_text, line_of, input_line}
 
 -- nothing yet
-pub put-none : (t : List ℕ) (at : ℕ) → t ≡ put t at []
+pub put_none : (t : List ℕ) (at : ℕ) → t ≡ put t at []
 unfolding put
-put-none t at = paste-zero t at []
+put_none t at = paste-zero t at []
 
-pub put-length : (t : List ℕ) (at : ℕ) (bs : List ℕ) → at + length bs ≤ length t → length (put t at bs) ≡ length t
+pub put_length : (t : List ℕ) (at : ℕ) (bs : List ℕ) → at + length bs ≤ length t → length (put t at bs) ≡ length t
 unfolding put
-put-length t at bs h = simp (length-append, length-take, length-drop) (omega arith)
+put_length t at bs h = simp (length-append, length-take, length-drop) (omega arith)
 
 -- one byte more
 pub put_on : (t : List ℕ) (at : ℕ) (bs : List ℕ) (v : ℕ) {u : List ℕ} {p : ℕ} → u ≡ put t at bs → p ≡ at + length bs → p < length t → set u p v ≡ put t at (bs ++ (v ∷ []))
@@ -43,13 +43,13 @@ put_next t at piece i e h k =
     put_on t at (take i piece) (get_or piece i 0) e (omega (arith, length-take-le i piece (omega arith))) (omega arith)
     ∙ ap (put t at) (sym (take-suc piece i 0 h) ∙ ap (λ (j : ℕ). take j piece) n)
 
-pub put-length-next : (t : List ℕ) (at : ℕ) (piece : List ℕ) (i : ℕ) {u : List ℕ} → u ≡ put t at (take i piece) → i ≤ length piece → at + length piece ≤ length t → length u ≡ length t
-put-length-next t at piece i e h k = ap length e ∙ put-length t at (take i piece) (omega (arith, length-take-le i piece h))
+pub put_length_next : (t : List ℕ) (at : ℕ) (piece : List ℕ) (i : ℕ) {u : List ℕ} → u ≡ put t at (take i piece) → i ≤ length piece → at + length piece ≤ length t → length u ≡ length t
+put_length_next t at piece i e h k = ap length e ∙ put_length t at (take i piece) (omega (arith, length-take-le i piece h))
 
 -- some bytes more
-pub put-more : (t : List ℕ) (at : ℕ) (xs bs : List ℕ) {u w : List ℕ} {p : ℕ} → u ≡ put t at xs → p ≡ at + length xs → w ≡ put u p bs → at ≤ length t → w ≡ put t at (xs ++ bs)
+pub put_more : (t : List ℕ) (at : ℕ) (xs bs : List ℕ) {u w : List ℕ} {p : ℕ} → u ≡ put t at xs → p ≡ at + length xs → w ≡ put u p bs → at ≤ length t → w ≡ put t at (xs ++ bs)
 unfolding put
-put-more t at xs bs {u} {w} {p} e f g h =
+put_more t at xs bs {u} {w} {p} e f g h =
     let n = length-take-le at t h in
     let m : length (take at t ++ xs) ≡ p = length-append (take at t) xs ∙ omega (arith, n) in
     let l : p + length bs ≡ at + length (xs ++ bs) = (omega arith) ∙ ap (λ (k : ℕ). at + k) (sym (length-append xs bs)) in
@@ -63,94 +63,94 @@ put-more t at xs bs {u} {w} {p} e f g h =
     ∙ ap (λ (k : ℕ). take at t ++ (xs ++ bs) ++ drop k t) l
 
 -- the digits of a number: one, or those of its tens and one more
-pub digits-one : (k n : ℕ) → 0 < k → n < 10 → digitsOf k n ≡ (48 + n) ∷ []
-unfolding digitsOf
-digits-one (suc k) n m h = rw (lt-ltb n 10 h)
-digits-one zero n m h = absurd (omega arith)
+pub digits_one : (k n : ℕ) → 0 < k → n < 10 → digits_of k n ≡ (48 + n) ∷ []
+unfolding digits_of
+digits_one (suc k) n m h = rw (lt-ltb n 10 h)
+digits_one zero n m h = absurd (omega arith)
 
-pub digits_more : (k n : ℕ) → 0 < k → 10 ≤ n → digitsOf k n ≡ digitsOf (k - 1) (n / 10) ++ ((48 + n % 10) ∷ [])
-unfolding digitsOf
+pub digits_more : (k n : ℕ) → 0 < k → 10 ≤ n → digits_of k n ≡ digits_of (k - 1) (n / 10) ++ ((48 + n % 10) ∷ [])
+unfolding digits_of
 digits_more k n m h = on (k - 1) (omega arith)
   where
-    on : (j : ℕ) → k ≡ suc j → digitsOf k n ≡ digitsOf j (n / 10) ++ ((48 + n % 10) ∷ [])
+    on : (j : ℕ) → k ≡ suc j → digits_of k n ≡ digits_of j (n / 10) ++ ((48 + n % 10) ∷ [])
     on j z = rw z (rw (le-ltb n 10 h))
 
 -- there are no more of them than asked for
-pub digits-short : (k n : ℕ) → length (digitsOf k n) ≤ k
-unfolding digitsOf
-digits-short zero n = omega arith
-digits-short (suc k) n = go (dec_lt n 10) (digits-short k (n / 10))
+pub digits_short : (k n : ℕ) → length (digits_of k n) ≤ k
+unfolding digits_of
+digits_short zero n = omega arith
+digits_short (suc k) n = go (dec_lt n 10) (digits_short k (n / 10))
   where
-    go : Dec (n < 10) → length (digitsOf k (n / 10)) ≤ k → length (digitsOf (suc k) n) ≤ suc k
+    go : Dec (n < 10) → length (digits_of k (n / 10)) ≤ k → length (digits_of (suc k) n) ≤ suc k
     go (yes h) ih = rw (lt-ltb n 10 h) (omega arith)
-    go (no h) ih = rw (le-ltb n 10 (omega arith)) (omega (arith, length-append (digitsOf k (n / 10)) ((48 + n % 10) ∷ [])))
+    go (no h) ih = rw (le-ltb n 10 (omega arith)) (omega (arith, length-append (digits_of k (n / 10)) ((48 + n % 10) ∷ [])))
 
 -- what writing the digits leaves: nothing, one digit, or the tens and one digit more
 module _ (t : List ℕ) (at k n : ℕ) where
-  pub write-none : k ≡ 0 → (t ≡ put t at (digitsOf k n)) × (at ≡ at + length (digitsOf k n))
-  unfolding digitsOf
-  write-none z = rw z (put-none t at, omega arith)
+  pub write_none : k ≡ 0 → (t ≡ put t at (digits_of k n)) × (at ≡ at + length (digits_of k n))
+  unfolding digits_of
+  write_none z = rw z (put_none t at, omega arith)
 
   module _ (more : 0 < k) (fits : at + k ≤ length t) where
-    pub write-one : (v : ℕ) → n < 10 → v ≡ 48 + n → (set t at v ≡ put t at (digitsOf k n)) × (at + 1 ≡ at + length (digitsOf k n))
-    write-one v h e =
-        let d : (v ∷ []) ≡ digitsOf k n = ap (λ (x : ℕ). x ∷ []) e ∙ sym (digits-one k n more h) in
-        (put_on t at [] v (put-none t at) (omega arith) (omega arith) ∙ ap (put t at) d, ap (λ (x : List ℕ). at + length x) d)
+    pub write_one : (v : ℕ) → n < 10 → v ≡ 48 + n → (set t at v ≡ put t at (digits_of k n)) × (at + 1 ≡ at + length (digits_of k n))
+    write_one v h e =
+        let d : (v ∷ []) ≡ digits_of k n = ap (λ (x : ℕ). x ∷ []) e ∙ sym (digits_one k n more h) in
+        (put_on t at [] v (put_none t at) (omega arith) (omega arith) ∙ ap (put t at) d, ap (λ (x : List ℕ). at + length x) d)
 
-    pub write-room : {p : ℕ} → p ≡ at + length (digitsOf (k - 1) (n / 10)) → p < length t
-    write-room e = omega (arith, digits-short (k - 1) (n / 10))
+    pub write_room : {p : ℕ} → p ≡ at + length (digits_of (k - 1) (n / 10)) → p < length t
+    write_room e = omega (arith, digits_short (k - 1) (n / 10))
 
-    pub write-last : (v : ℕ) {u : List ℕ} {p : ℕ} → 10 ≤ n → u ≡ put t at (digitsOf (k - 1) (n / 10)) → p ≡ at + length (digitsOf (k - 1) (n / 10)) → v ≡ 48 + n % 10 → (set u p v ≡ put t at (digitsOf k n)) × (p + 1 ≡ at + length (digitsOf k n))
-    write-last v {u} {p} h e f g =
-        let d : digitsOf (k - 1) (n / 10) ++ (v ∷ []) ≡ digitsOf k n = ap (λ (x : ℕ). digitsOf (k - 1) (n / 10) ++ (x ∷ [])) g ∙ sym (digits_more k n more h) in
-        let l : p + 1 ≡ at + length (digitsOf (k - 1) (n / 10) ++ (v ∷ [])) = omega (arith, length-append (digitsOf (k - 1) (n / 10)) (v ∷ [])) in
-        (put_on t at (digitsOf (k - 1) (n / 10)) v e f (write-room f) ∙ ap (put t at) d, l ∙ ap (λ (x : List ℕ). at + length x) d)
+    pub write_last : (v : ℕ) {u : List ℕ} {p : ℕ} → 10 ≤ n → u ≡ put t at (digits_of (k - 1) (n / 10)) → p ≡ at + length (digits_of (k - 1) (n / 10)) → v ≡ 48 + n % 10 → (set u p v ≡ put t at (digits_of k n)) × (p + 1 ≡ at + length (digits_of k n))
+    write_last v {u} {p} h e f g =
+        let d : digits_of (k - 1) (n / 10) ++ (v ∷ []) ≡ digits_of k n = ap (λ (x : ℕ). digits_of (k - 1) (n / 10) ++ (x ∷ [])) g ∙ sym (digits_more k n more h) in
+        let l : p + 1 ≡ at + length (digits_of (k - 1) (n / 10) ++ (v ∷ [])) = omega (arith, length-append (digits_of (k - 1) (n / 10)) (v ∷ [])) in
+        (put_on t at (digits_of (k - 1) (n / 10)) v e f (write_room f) ∙ ap (put t at) d, l ∙ ap (λ (x : List ℕ). at + length x) d)
 
 -- a text that is written piece by piece from a place on: what is written so far, and where the next piece goes
 abbrev pub Placed : List ℕ → ℕ → List ℕ → List ℕ → ℕ → Type 0
 Placed t at xs u p = (u ≡ put t at xs) × (p ≡ at + length xs)
 
-pub placed-more : (t : List ℕ) (at : ℕ) → at ≤ length t → (xs bs : List ℕ) {u w : List ℕ} {p q : ℕ} → Placed t at xs u p → Placed u p bs w q → Placed t at (xs ++ bs) w q
-placed-more t at h xs bs (e, f) (g, k) = (put-more t at xs bs e f g h, omega (arith, length-append xs bs))
+pub placed_more : (t : List ℕ) (at : ℕ) → at ≤ length t → (xs bs : List ℕ) {u w : List ℕ} {p q : ℕ} → Placed t at xs u p → Placed u p bs w q → Placed t at (xs ++ bs) w q
+placed_more t at h xs bs (e, f) (g, k) = (put_more t at xs bs e f g h, omega (arith, length-append xs bs))
 
 -- the same from the table's start
 abbrev pub Wrote : List ℕ → List ℕ → List ℕ → ℕ → Type 0
 Wrote t xs u p = (u ≡ put t 0 xs) × (p ≡ length xs)
 
-pub wrote-first : (t xs : List ℕ) {u : List ℕ} {p : ℕ} → Placed t 0 xs u p → Wrote t xs u p
-wrote-first t xs (e, f) = (e, omega arith)
+pub wrote_first : (t xs : List ℕ) {u : List ℕ} {p : ℕ} → Placed t 0 xs u p → Wrote t xs u p
+wrote_first t xs (e, f) = (e, omega arith)
 
-pub wrote-more : (t xs bs : List ℕ) {u w : List ℕ} {p q : ℕ} → Wrote t xs u p → Placed u p bs w q → Wrote t (xs ++ bs) w q
-wrote-more t xs bs (e, f) m = let r = placed-more t 0 (omega arith) xs bs (e, omega arith) m in (r.0, omega arith)
+pub wrote_more : (t xs bs : List ℕ) {u w : List ℕ} {p q : ℕ} → Wrote t xs u p → Placed u p bs w q → Wrote t (xs ++ bs) w q
+wrote_more t xs bs (e, f) m = let r = placed_more t 0 (omega arith) xs bs (e, omega arith) m in (r.0, omega arith)
 
 -- the text is another one, which it equals
-pub wrote-is : (t xs : List ℕ) {ys u : List ℕ} {p : ℕ} → Wrote t xs u p → xs ≡ ys → Wrote t ys u p
-wrote-is t xs (e, f) g = (e ∙ ap (put t 0) g, f ∙ ap length g)
+pub wrote_is : (t xs : List ℕ) {ys u : List ℕ} {p : ℕ} → Wrote t xs u p → xs ≡ ys → Wrote t ys u p
+wrote_is t xs (e, f) g = (e ∙ ap (put t 0) g, f ∙ ap length g)
 
-pub name-short : (p : Paper) → length (name_of p) ≤ 13
+pub name_short : (p : Paper) → length (name_of p) ≤ 13
 unfolding name_of
-name-short Dossier = omega arith
-name-short Certificate = omega arith
+name_short Dossier = omega arith
+name_short Certificate = omega arith
 
 -- a refusal, with its three numbers of at most 20 digits
-pub refusal-short : (number : ℕ) (paper : Paper) (place count : ℕ) → length (refusalOf number paper place count) ≤ 82
-unfolding refusalOf decimal
-refusal-short number paper place count = simp length-append (omega (arith, digits-short 20 number, name-short paper, digits-short 20 place, digits-short 20 count))
+pub refusal_short : (number : ℕ) (paper : Paper) (place count : ℕ) → length (refusal_of number paper place count) ≤ 82
+unfolding refusal_of decimal
+refusal_short number paper place count = simp length-append (omega (arith, digits_short 20 number, name_short paper, digits_short 20 place, digits_short 20 count))
 
-pub reply-short : (r : Reply) → length (replyText r) ≤ 82
-unfolding replyText verdictText
-reply-short r = go r.verdict r.paper r.place r.count
+pub reply_short : (r : Reply) → length (reply_text r) ≤ 82
+unfolding reply_text verdict_text
+reply_short r = go r.verdict r.paper r.place r.count
   where
-    go : (v : Verdict) (p : Paper) (place count : ℕ) → length (verdictText v p place count) ≤ 82
+    go : (v : Verdict) (p : Paper) (place count : ℕ) → length (verdict_text v p place count) ≤ 82
     go Opaque p place count = omega arith
     go Detectable p place count = omega arith
-    go (Refused n) p place count = refusal-short n p place count
+    go (Refused n) p place count = refusal_short n p place count
 
 -- no line is longer than 96 bytes
-pub line-short : (r : Reply) → length (line_of r) ≤ 96
+pub line_short : (r : Reply) → length (line_of r) ≤ 96
 unfolding line_of
-line-short r = omega (arith, length-append (replyText r) (10 ∷ []), reply-short r)
+line_short r = omega (arith, length-append (reply_text r) (10 ∷ []), reply_short r)
 
-pub input-line-short : length inputLine ≤ 96
-unfolding inputLine
-input-line-short = omega arith
+pub input_line_short : length input_line ≤ 96
+unfolding input_line
+input_line_short = omega arith

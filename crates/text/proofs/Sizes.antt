@@ -15,56 +15,56 @@ use Rattle.text.specs.declared.Input.{Input}
 use Rattle.text.specs.declared.Input.TheVariants.{Bad, Papers}
 
 module _ (n : ℕ) where
-  pub whole-short : n < 2 → false ≡ whole n
+  pub whole_short : n < 2 → false ≡ whole n
   unfolding whole
-  whole-short h = rw (lt-ltb n 2 h)
+  whole_short h = rw (lt-ltb n 2 h)
 
   pub whole_long : 2 ≤ n → 65536 < n → false ≡ whole n
   unfolding whole
   whole_long h k = rw (le-ltb n 2 h, lt-ltb 65536 n k)
 
-  pub whole-even : 2 ≤ n → n ≤ 65536 → eqb (n % 2) 0 ≡ whole n
+  pub whole_even : 2 ≤ n → n ≤ 65536 → eqb (n % 2) 0 ≡ whole n
   unfolding whole
-  whole-even h k = rw (le-ltb n 2 h, le-ltb 65536 n k)
+  whole_even h k = rw (le-ltb n 2 h, le-ltb 65536 n k)
 
   -- what is whole has a length word, is not too long and has no odd byte left
   pub whole_is : whole n ≡ true → (2 ≤ n) × (n ≤ 65536) × (n % 2 ≡ 0)
   whole_is e = go (dec_lt n 2) (dec_lt 65536 n)
     where
       go : Dec (n < 2) → Dec (65536 < n) → (2 ≤ n) × (n ≤ 65536) × (n % 2 ≡ 0)
-      go (yes h) k = clash e (sym (whole-short h))
+      go (yes h) k = clash e (sym (whole_short h))
       go (no h) (yes k) = clash e (sym (whole_long (omega arith) k))
-      go (no h) (no k) = (omega arith, omega arith, eqb-true (n % 2) 0 (whole-even (omega arith) (omega arith) ∙ e))
+      go (no h) (no k) = (omega arith, omega arith, eqb-true (n % 2) 0 (whole_even (omega arith) (omega arith) ∙ e))
 
 module _ (bs : List ℕ) where
-  pub input-odd : whole (length bs) ≡ false → Bad ≡ input_of bs
+  pub input_odd : whole (length bs) ≡ false → Bad ≡ input_of bs
   unfolding input_of
-  input-odd e = rw e
+  input_odd e = rw e
 
-  pub input-papers : whole (length bs) ≡ true → (d : ℕ) → d ≡ word_at bs 0 → d ≤ length bs / 2 - 1 → Papers d (length bs / 2 - 1 - d) ≡ input_of bs
+  pub input_papers : whole (length bs) ≡ true → (d : ℕ) → d ≡ word_at bs 0 → d ≤ length bs / 2 - 1 → Papers d (length bs / 2 - 1 - d) ≡ input_of bs
   unfolding input_of announced
-  input-papers e d f h = rw (e, sym f, le-leb d (length bs / 2 - 1) h)
+  input_papers e d f h = rw (e, sym f, le-leb d (length bs / 2 - 1) h)
 
-  pub input-short : whole (length bs) ≡ true → (d : ℕ) → d ≡ word_at bs 0 → length bs / 2 - 1 < d → Bad ≡ input_of bs
+  pub input_short : whole (length bs) ≡ true → (d : ℕ) → d ≡ word_at bs 0 → length bs / 2 - 1 < d → Bad ≡ input_of bs
   unfolding input_of announced
-  input-short e d f h = rw (e, sym f, lt-leb d (length bs / 2 - 1) h)
+  input_short e d f h = rw (e, sym f, lt-leb d (length bs / 2 - 1) h)
 
 -- papers fill the input: the length word, the dossier's words and the certificate's
 unfoldable pub Fills : ℕ → Input → Type 0
 Fills n Bad = Unit {0}
 Fills n (Papers d c) = (d + c + 1 ≡ n / 2) × (n ≤ 65536)
 
-pub input-fills : (bs : List ℕ) → Fills (length bs) (input_of bs)
+pub input_fills : (bs : List ℕ) → Fills (length bs) (input_of bs)
 unfolding Fills
-input-fills bs = go (cases (whole (length bs))) (dec_lt (length bs / 2 - 1) (word_at bs 0))
+input_fills bs = go (cases (whole (length bs))) (dec_lt (length bs / 2 - 1) (word_at bs 0))
   where
     go : (whole (length bs) ≡ true) ⊎ (whole (length bs) ≡ false) → Dec (length bs / 2 - 1 < word_at bs 0) → Fills (length bs) (input_of bs)
-    go (inr e) k = subst (Fills (length bs)) (input-odd bs e) tt
-    go (inl e) (yes k) = subst (Fills (length bs)) (input-short bs e (word_at bs 0) refl k) tt
+    go (inr e) k = subst (Fills (length bs)) (input_odd bs e) tt
+    go (inl e) (yes k) = subst (Fills (length bs)) (input_short bs e (word_at bs 0) refl k) tt
     go (inl e) (no k) =
         let w = whole_is (length bs) e in
-        subst (Fills (length bs)) (input-papers bs e (word_at bs 0) refl (omega arith)) (omega (arith, w), w.1)
+        subst (Fills (length bs)) (input_papers bs e (word_at bs 0) refl (omega arith)) (omega (arith, w), w.1)
 
-pub papers-fill : (bs : List ℕ) (d c : ℕ) {r : Input} → r ≡ input_of bs → r ≡ Papers d c → (d + c + 1 ≡ length bs / 2) × (length bs ≤ 65536)
+pub papers_fill : (bs : List ℕ) (d c : ℕ) {r : Input} → r ≡ input_of bs → r ≡ Papers d c → (d + c + 1 ≡ length bs / 2) × (length bs ≤ 65536)
 unfolding Fills
-papers-fill bs d c e f = subst (Fills (length bs)) (sym e ∙ f) (input-fills bs)
+papers_fill bs d c e f = subst (Fills (length bs)) (sym e ∙ f) (input_fills bs)

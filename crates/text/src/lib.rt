@@ -2,7 +2,7 @@
 ghost use Rattle.std.specs.Prelude.{◌≡◌, ◌+◌, ◌*◌, ◌/◌, ◌≤◌, ◌<◌, min, length};
 ghost use Rattle.promise.specs.Place.{filled};
 ghost use Rattle.text.specs.Bytes.{word_at, whole, input_of};
-ghost use Rattle.text.specs.Line.{put, digitsOf, name_of, refusalOf, replyText, line_of, inputLine};
+ghost use Rattle.text.specs.Line.{put, digits_of, name_of, refusal_of, reply_text, line_of, input_line};
 
 use reply::{Paper, Reply, Verdict};
 
@@ -94,7 +94,7 @@ fn digit(d: usize) -> u8
 // Writes n in decimal from place `at` on, with at most so many digits as there is room; the rest of the table stays. Answers the place after it.
 pub fn digits(n: usize, room: usize, out: &mut [u8], at: usize) -> usize
     requires { at + room ≤ length out.old }
-    ensures { (out.new ≡ put out.old at (digitsOf room n)) × (result ≡ at + length (digitsOf room n)) }
+    ensures { (out.new ≡ put out.old at (digits_of room n)) × (result ≡ at + length (digits_of room n)) }
 {
     if room == 0 {
         return at;
@@ -122,7 +122,7 @@ fn name(paper: Paper, out: &mut [u8], at: usize) -> usize
 // Writes a refusal, without a line feed, at the table's start; the rest of the table stays. Answers how many bytes it has.
 fn refusal(number: u16, paper: Paper, place: usize, count: usize, out: &mut [u8]) -> usize
     requires { 96 ≤ length out.old }
-    ensures { (out.new ≡ put out.old 0 (refusalOf number paper place count)) × (result ≡ length (refusalOf number paper place count)) }
+    ensures { (out.new ≡ put out.old 0 (refusal_of number paper place count)) × (result ≡ length (refusal_of number paper place count)) }
 {
     let a = write(b"REFUSED ", out, 0);
     let b = digits(number as usize, 20, out, a);
@@ -135,7 +135,7 @@ fn refusal(number: u16, paper: Paper, place: usize, count: usize, out: &mut [u8]
 // Writes what the reply says, without a line feed, at the table's start; the rest of the table stays. Answers how many bytes it has.
 pub fn reply_text(reply: Reply, out: &mut [u8]) -> usize
     requires { 96 ≤ length out.old }
-    ensures { (out.new ≡ put out.old 0 (replyText reply)) × (result ≡ length (replyText reply)) }
+    ensures { (out.new ≡ put out.old 0 (reply_text reply)) × (result ≡ length (reply_text reply)) }
 {
     let verdict = reply.verdict;
     let paper = reply.paper;
@@ -160,7 +160,7 @@ pub fn line(reply: Reply, out: &mut [u8]) -> usize
 // Writes the line for input that is not papers at the table's start; the rest of the table stays. Answers how many bytes the line has.
 pub fn input_line(out: &mut [u8]) -> usize
     requires { 96 ≤ length out.old }
-    ensures { (out.new ≡ put out.old 0 inputLine) × (result ≡ length inputLine) }
+    ensures { (out.new ≡ put out.old 0 input_line) × (result ≡ length input_line) }
 {
     write(b"INPUT\n", out, 0)
 }

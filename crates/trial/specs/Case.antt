@@ -9,49 +9,49 @@ use Rattle.trial.specs.declared.Case.{Case}
 use Rattle.trial.specs.declared.Case.TheVariants.{Bad, Judge, Answers, Shown, Bytes, Rounds}
 
 -- how many bytes the numbers between a kind and the papers have: five words for kind 3, four for kind 5, else two
-unfoldable pub headerOf : ℕ → ℕ
-headerOf kind = cond (eqb kind 3) 10 (cond (eqb kind 5) 8 4)
+unfoldable pub header_of : ℕ → ℕ
+header_of kind = cond (eqb kind 3) 10 (cond (eqb kind 5) 8 4)
 
 -- words i and i + 1 of the numbers: at most 32,767 words for the two papers together, what the program judge takes after its length word; the same for table and dossier
-unfoldable pub sizesAt : List ℕ → ℕ → Sizes
-sizesAt h i = cond (leb (word_at h i + word_at h (i + 1)) 32767) (Both (word_at h i) (word_at h (i + 1))) Over
+unfoldable pub sizes_at : List ℕ → ℕ → Sizes
+sizes_at h i = cond (leb (word_at h i + word_at h (i + 1)) 32767) (Both (word_at h i) (word_at h (i + 1))) Over
 
 -- kind 1: dossier length, certificate length
-abbrev pub judgeCase : Sizes → Case
-judgeCase Over = Bad
-judgeCase (Both d c) = Judge d c
+abbrev pub judge_case : Sizes → Case
+judge_case Over = Bad
+judge_case (Both d c) = Judge d c
 
 -- kind 2: table length, dossier length
-abbrev pub answersCase : Sizes → Case
-answersCase Over = Bad
-answersCase (Both t d) = Answers t d
+abbrev pub answers_case : Sizes → Case
+answers_case Over = Bad
+answers_case (Both t d) = Answers t d
 
 -- kind 3: paper (0 dossier, 1 certificate), place, count, dossier length, certificate length
-abbrev pub paperCase : Paper → ℕ → ℕ → Sizes → Case
-paperCase paper place count Over = Bad
-paperCase paper place count (Both d c) = Shown paper place count d c
+abbrev pub paper_case : Paper → ℕ → ℕ → Sizes → Case
+paper_case paper place count Over = Bad
+paper_case paper place count (Both d c) = Shown paper place count d c
 
-unfoldable pub shownCase : List ℕ → Case
-shownCase h =
-    cond (eqb (word_at h 0) 0) (paperCase Dossier (word_at h 1) (word_at h 2) (sizesAt h 3))
-    (cond (eqb (word_at h 0) 1) (paperCase Certificate (word_at h 1) (word_at h 2) (sizesAt h 3)) Bad)
+unfoldable pub shown_case : List ℕ → Case
+shown_case h =
+    cond (eqb (word_at h 0) 0) (paper_case Dossier (word_at h 1) (word_at h 2) (sizes_at h 3))
+    (cond (eqb (word_at h 0) 1) (paper_case Certificate (word_at h 1) (word_at h 2) (sizes_at h 3)) Bad)
 
 -- kind 4: a count of bytes as two words, low, then high; at most 70,000
-unfoldable pub bytesCase : List ℕ → Case
-bytesCase h = cond (leb (word_at h 0 + 65536 * word_at h 1) 70000) (Bytes (word_at h 0 + 65536 * word_at h 1)) Bad
+unfoldable pub bytes_case : List ℕ → Case
+bytes_case h = cond (leb (word_at h 0 + 65536 * word_at h 1) 70000) (Bytes (word_at h 0 + 65536 * word_at h 1)) Bad
 
 -- kind 5 (request A5): fill, table length (at most 32,767), dossier length, certificate length
-abbrev pub tableCase : ℕ → ℕ → Sizes → Case
-tableCase fill t Over = Bad
-tableCase fill t (Both d c) = Rounds fill t d c
+abbrev pub table_case : ℕ → ℕ → Sizes → Case
+table_case fill t Over = Bad
+table_case fill t (Both d c) = Rounds fill t d c
 
-unfoldable pub roundsCase : List ℕ → Case
-roundsCase h = cond (leb (word_at h 1) 32767) (tableCase (word_at h 0) (word_at h 1) (sizesAt h 2)) Bad
+unfoldable pub rounds_case : List ℕ → Case
+rounds_case h = cond (leb (word_at h 1) 32767) (table_case (word_at h 0) (word_at h 1) (sizes_at h 2)) Bad
 
 -- what a case asks for, by its kind and the bytes of its numbers
 unfoldable pub case_of : ℕ → List ℕ → Case
 case_of kind h =
-    cond (eqb kind 1) (judgeCase (sizesAt h 0)) (cond (eqb kind 2) (answersCase (sizesAt h 0)) (cond (eqb kind 3) (shownCase h) (cond (eqb kind 4) (bytesCase h) (cond (eqb kind 5) (roundsCase h) Bad))))
+    cond (eqb kind 1) (judge_case (sizes_at h 0)) (cond (eqb kind 2) (answers_case (sizes_at h 0)) (cond (eqb kind 3) (shown_case h) (cond (eqb kind 4) (bytes_case h) (cond (eqb kind 5) (rounds_case h) Bad))))
 
 -- how many bytes follow the numbers: the papers; or the bytes, and one of padding after an odd count
 unfoldable pub size_of : Case → ℕ

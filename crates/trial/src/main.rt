@@ -2,9 +2,9 @@
 ghost use Rattle.std.specs.Prelude.{◌≡◌, ◌+◌, ◌*◌, ◌≤◌, length, replicate};
 ghost use Rattle.promise.specs.Place.{part};
 ghost use Rattle.text.specs.Line.{put};
-ghost use Rattle.printed.specs.Lists.{answersLine, roundsLine, asking, shownLine};
-ghost use Rattle.trial.specs.Case.{headerOf, sizesAt, judgeCase, answersCase, paperCase, shownCase, bytesCase, tableCase, roundsCase, case_of, size_of, Fits};
-ghost use Rattle.trial.specs.Line.{caseLine, Room};
+ghost use Rattle.printed.specs.Lists.{answers_line, rounds_line, asking, shown_line};
+ghost use Rattle.trial.specs.Case.{header_of, sizes_at, judge_case, answers_case, paper_case, shown_case, bytes_case, table_case, rounds_case, case_of, size_of, Fits};
+ghost use Rattle.trial.specs.Line.{case_line, Room};
 
 use libc::{STDIN_FILENO, STDOUT_FILENO};
 use reply::Paper;
@@ -53,7 +53,7 @@ fn blank() -> [u8; 196704]
 
 // How many bytes the numbers between a case's kind and its papers have.
 fn header_size(kind: u16) -> usize
-    ensures { result ≡ headerOf kind }
+    ensures { result ≡ header_of kind }
 {
     if kind == 3 {
         return 10;
@@ -64,7 +64,7 @@ fn header_size(kind: u16) -> usize
 // Words i and i + 1 of the numbers, which say how long two papers are, or a table and a paper.
 fn sizes_at(header: &[u8], i: usize) -> Sizes
     requires { 2 * i + 4 ≤ length header.now }
-    ensures { result ≡ sizesAt header.now i }
+    ensures { result ≡ sizes_at header.now i }
 {
     let a = text::word_at(header, i) as usize;
     let b = text::word_at(header, i + 1) as usize;
@@ -77,7 +77,7 @@ fn sizes_at(header: &[u8], i: usize) -> Sizes
 
 // Kind 1: the dossier's length and the certificate's.
 fn judge_case(sizes: Sizes) -> Case
-    ensures { result ≡ judgeCase sizes }
+    ensures { result ≡ judge_case sizes }
 {
     match sizes {
         Sizes::Over => Case::Bad,
@@ -87,7 +87,7 @@ fn judge_case(sizes: Sizes) -> Case
 
 // Kind 2: the table's length and the dossier's.
 fn answers_case(sizes: Sizes) -> Case
-    ensures { result ≡ answersCase sizes }
+    ensures { result ≡ answers_case sizes }
 {
     match sizes {
         Sizes::Over => Case::Bad,
@@ -97,7 +97,7 @@ fn answers_case(sizes: Sizes) -> Case
 
 // Kind 3, with its paper known: a place, a count, and the dossier's length and the certificate's.
 fn paper_case(paper: Paper, place: usize, count: usize, sizes: Sizes) -> Case
-    ensures { result ≡ paperCase paper place count sizes }
+    ensures { result ≡ paper_case paper place count sizes }
 {
     match sizes {
         Sizes::Over => Case::Bad,
@@ -108,7 +108,7 @@ fn paper_case(paper: Paper, place: usize, count: usize, sizes: Sizes) -> Case
 // Kind 3: its paper is 0, the dossier, or 1, the certificate.
 fn shown_case(header: &[u8]) -> Case
     requires { 10 ≤ length header.now }
-    ensures { result ≡ shownCase header.now }
+    ensures { result ≡ shown_case header.now }
 {
     let paper = text::word_at(header, 0);
     let place = text::word_at(header, 1) as usize;
@@ -126,7 +126,7 @@ fn shown_case(header: &[u8]) -> Case
 // Kind 4: a count of bytes as two words, low, then high.
 fn bytes_case(header: &[u8]) -> Case
     requires { 4 ≤ length header.now }
-    ensures { result ≡ bytesCase header.now }
+    ensures { result ≡ bytes_case header.now }
 {
     let low = text::word_at(header, 0) as usize;
     let high = text::word_at(header, 1) as usize;
@@ -140,7 +140,7 @@ fn bytes_case(header: &[u8]) -> Case
 
 // Kind 5, with what its table is filled with, and how many words it has: the dossier's length and the certificate's.
 fn table_case(fill: u16, t: usize, sizes: Sizes) -> Case
-    ensures { result ≡ tableCase fill t sizes }
+    ensures { result ≡ table_case fill t sizes }
 {
     match sizes {
         Sizes::Over => Case::Bad,
@@ -151,7 +151,7 @@ fn table_case(fill: u16, t: usize, sizes: Sizes) -> Case
 // Kind 5: its table has at most 32,767 words.
 fn rounds_case(header: &[u8]) -> Case
     requires { 8 ≤ length header.now }
-    ensures { result ≡ roundsCase header.now }
+    ensures { result ≡ rounds_case header.now }
 {
     let fill = text::word_at(header, 0);
     let t = text::word_at(header, 1) as usize;
@@ -165,7 +165,7 @@ fn rounds_case(header: &[u8]) -> Case
 
 // What a case of this kind asks for, with these numbers before its papers.
 fn case_of(kind: u16, header: &[u8]) -> Case
-    requires { headerOf kind ≤ length header.now }
+    requires { header_of kind ≤ length header.now }
     ensures { result ≡ case_of kind header.now }
 {
     if kind == 1 {
@@ -216,8 +216,8 @@ fn fill(table: &mut [u16], x: u16)
 // The answers' line for a table that is lent with 7 in every word.
 fn sevens_line(dossier: &[u16], table: &mut [u16], out: &mut [u8]) -> usize
     requires { 96 + 6 * length table.old ≤ length out.old }
-    ensures { (out.new ≡ put out.old 0 (answersLine dossier.now (replicate (length table.old) 7)))
-        × (result ≡ length (answersLine dossier.now (replicate (length table.old) 7))) }
+    ensures { (out.new ≡ put out.old 0 (answers_line dossier.now (replicate (length table.old) 7)))
+        × (result ≡ length (answers_line dossier.now (replicate (length table.old) 7))) }
 {
     fill(table, 7);
     printed::answers_line(dossier, table, out)
@@ -234,8 +234,8 @@ fn shown_at(
     out: &mut [u8],
 ) -> usize
     requires { (d + c ≤ length words.now) × (96 + 6 * (d + c) ≤ length out.old) }
-    ensures { (out.new ≡ put out.old 0 (shownLine (part words.now 0 d) (part words.now d c) (asking paper place count)))
-        × (result ≡ length (shownLine (part words.now 0 d) (part words.now d c) (asking paper place count))) }
+    ensures { (out.new ≡ put out.old 0 (shown_line (part words.now 0 d) (part words.now d c) (asking paper place count)))
+        × (result ≡ length (shown_line (part words.now 0 d) (part words.now d c) (asking paper place count))) }
 {
     let end = d + c;
     printed::shown_line(&words[..d], &words[d..end], paper, place, count, out)
@@ -245,8 +245,8 @@ fn shown_at(
 // certificate's after them.
 fn rounds_at(words: &[u16], x: u16, d: usize, c: usize, table: &mut [u16], out: &mut [u8]) -> usize
     requires { (d + c ≤ length words.now) × (96 + 6 * length table.old ≤ length out.old) }
-    ensures { (out.new ≡ put out.old 0 (roundsLine (part words.now 0 d) (part words.now d c) (replicate (length table.old) x)))
-        × (result ≡ length (roundsLine (part words.now 0 d) (part words.now d c) (replicate (length table.old) x))) }
+    ensures { (out.new ≡ put out.old 0 (rounds_line (part words.now 0 d) (part words.now d c) (replicate (length table.old) x)))
+        × (result ≡ length (rounds_line (part words.now 0 d) (part words.now d c) (replicate (length table.old) x))) }
 {
     let end = d + c;
     fill(table, x);
@@ -256,7 +256,7 @@ fn rounds_at(words: &[u16], x: u16, d: usize, c: usize, table: &mut [u16], out: 
 // The line that a case prints, with the bytes that follow its numbers. Answers how many bytes the line has.
 fn case_line(case: Case, body: &[u8], words: &mut [u16], table: &mut [u16], out: &mut [u8]) -> usize
     requires { Fits case × (length body.now ≡ size_of case) × Room words.old table.old out.old }
-    ensures { (out.new ≡ put out.old 0 (caseLine case body.now)) × (result ≡ length (caseLine case body.now)) }
+    ensures { (out.new ≡ put out.old 0 (case_line case body.now)) × (result ≡ length (case_line case body.now)) }
 {
     text::words(body, words);
     match case {

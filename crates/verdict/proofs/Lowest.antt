@@ -27,9 +27,9 @@ module _ (p : ℕ → Bool) where
       let s : suc i ≡ i + 1 = omega arith in
       (omega arith, f.1 ∙ ahead i (n - i) a ∙ ap (λ (t : Bool). choose t (lowest p (suc i) (n - i - 1)) (some i)) e ∙ ap (λ (x : ℕ). lowest p (suc i) x) b ∙ ap (λ (x : ℕ). lowest p x (n - (i + 1))) s)
 
-  pub from-fault : (n i : ℕ) → From n i → i < n → p i ≡ false → lowest p 0 n ≡ some i
+  pub from_fault : (n i : ℕ) → From n i → i < n → p i ≡ false → lowest p 0 n ≡ some i
   unfolding choose
-  from-fault n i f h e =
+  from_fault n i f h e =
       let a : 0 < n - i = omega arith in
       f.1 ∙ ahead i (n - i) a ∙ ap (λ (t : Bool). choose t (lowest p (suc i) (n - i - 1)) (some i)) e
 
@@ -44,15 +44,15 @@ module _ (p : ℕ → Bool) where
   some_number true k j o l f h e = f e
   some_number false k j o l f h e = let z : k ≡ j = cc in omega arith
 
-  lowest-before : (i left j : ℕ) → lowest p i left ≡ some j → j < i + left
+  lowest_before : (i left j : ℕ) → lowest p i left ≡ some j → j < i + left
   unfolding lowest
-  lowest-before i zero j e = absurd (let z : ◌≡◌ {A = ℕ} 0 1 = ap from e in omega arith)
+  lowest_before i zero j e = absurd (let z : ◌≡◌ {A = ℕ} 0 1 = ap from e in omega arith)
     where
       from : Option ℕ → ℕ
       from none = 0
       from (some x) = 1
-  lowest-before i (suc left) j e =
-      some_number (p i) i j (lowest p (suc i) left) (i + suc left) (λ h. let z = lowest-before (suc i) left j h in omega (arith, z)) (omega arith) e
+  lowest_before i (suc left) j e =
+      some_number (p i) i j (lowest p (suc i) left) (i + suc left) (λ h. let z = lowest_before (suc i) left j h in omega (arith, z)) (omega arith) e
 
-  pub lowest-below : (n j : ℕ) → lowest p 0 n ≡ some j → j < n
-  lowest-below n j e = let z = lowest-before 0 n j e in omega (arith, z)
+  pub lowest_below : (n j : ℕ) → lowest p 0 n ≡ some j → j < n
+  lowest_below n j e = let z = lowest_before 0 n j e in omega (arith, z)

@@ -17,65 +17,65 @@ use Rattle.promise.specs.Place.{many, filled, Fit}
 use Rattle.promise.specs.Formula.{entry}
 use Rattle.promise.specs.Line.{line}
 use Rattle.promise.specs.Clause.{credential}
-use Rattle.promise.specs.Layout.{dossierAt, Laid, certificateAt, Proposed}
+use Rattle.promise.specs.Layout.{dossier_at, Laid, certificate_at, Proposed}
 use Rattle.promise.specs.declared.Proposal.{Proposal}
 use Rattle.promise.specs.declared.Proposal.TheVariants.{Witness, Proof}
 use Rattle.reply.specs.declared.Reply.{Reply}
 use Rattle.promise.specs.Thing.{next_of, ok_of, FitOf}
 use Rattle.promise.specs.declared.Layout.{Layout}
 use Rattle.promise.specs.declared.Thing.TheVariants as thing
-use Rattle.promise.proofs.Place.{filled_at, filled-length, many-at, many-past}
-use Rattle.evaluation.specs.Which.{policyAt}
-use Rattle.evaluation.specs.Answer.{answer_of, answerWord}
+use Rattle.promise.proofs.Place.{filled_at, filled_length, many_at, many_past}
+use Rattle.evaluation.specs.Which.{policy_at}
+use Rattle.evaluation.specs.Answer.{answer_of, answer_word}
 use Rattle.evaluation.specs.declared.Which.TheVariants.{Own}
 use Rattle.lines.specs.Ready as rules
 use Rattle.lines.specs.Ready.{ProbeStarts}
-use Rattle.verdict.specs.Told.{replyAt, roundsAt, Says, size_of, Told}
+use Rattle.verdict.specs.Told.{reply_at, rounds_at, Says, size_of, Told}
 
 module _ (d : List ℕ) (o : Layout) (l : Laid d o) where
-  pub clauses-fit : FitOf thing.Clause d o.clauses o.nclauses
+  pub clauses_fit : FitOf thing.Clause d o.clauses o.nclauses
   unfolding FitOf ok_of next_of Fit
-  clauses-fit j h = (l.clauses j h).ends
+  clauses_fit j h = (l.clauses j h).ends
 
-  pub creds-fit : FitOf thing.Credential d o.creds o.ncreds
+  pub creds_fit : FitOf thing.Credential d o.creds o.ncreds
   unfolding FitOf ok_of next_of Fit
-  creds-fit j h = (l.creds j h).ends
+  creds_fit j h = (l.creds j h).ends
 
-  pub probes-fit : FitOf thing.Entry d o.probes o.nprobes
+  pub probes_fit : FitOf thing.Entry d o.probes o.nprobes
   unfolding FitOf ok_of next_of Fit
-  probes-fit j h = (l.probes j h).ends
+  probes_fit j h = (l.probes j h).ends
 
 pub lines_fit : (s : List ℕ) (k : ℕ) → Fit line s 2 k → FitOf thing.Line s 2 k
 unfolding FitOf ok_of next_of Fit
 lines_fit s k f j h = f j h
 
 -- the secret's answer in the dossier's own policy is the aim, whatever the certificate
-pub own-aim : (d : List ℕ) (o : Layout) (w : List ℕ) {b : Bool} → b ≡ answer_of d o w Own o.secret → b ≡ aim (dossierAt d o)
-unfolding aim answer_of policyAt dossierAt
-own-aim d o w e = e
+pub own_aim : (d : List ℕ) (o : Layout) (w : List ℕ) {b : Bool} → b ≡ answer_of d o w Own o.secret → b ≡ aim (dossier_at d o)
+unfolding aim answer_of policy_at dossier_at
+own_aim d o w e = e
 
 -- the answers, as evaluation writes them
-pub told-filled : (d : List ℕ) (o : Layout) (old : List ℕ) {t : List ℕ} → t ≡ filled (answerWord d o) o.nprobes old → o.nprobes ≤ length old → Told d o t
-told-filled d o old e h =
+pub told_filled : (d : List ℕ) (o : Layout) (old : List ℕ) {t : List ℕ} → t ≡ filled (answer_word d o) o.nprobes old → o.nprobes ≤ length old → Told d o t
+told_filled d o old e h =
     record {
-      long = rw e (omega (arith, filled-length (answerWord d o) o.nprobes old h));
-      each = λ j i. ap (λ (x : List ℕ). get_or x j 0) e ∙ filled_at (answerWord d o) o.nprobes j old i;
+      long = rw e (omega (arith, filled_length (answer_word d o) o.nprobes old h));
+      each = λ j i. ap (λ (x : List ℕ). get_or x j 0) e ∙ filled_at (answer_word d o) o.nprobes j old i;
     }
 
 -- what the rules stand on
 module _ (d : List ℕ) (o : Layout) (table : List ℕ) (t : Told d o table) where
-  entryOf-some : {x y : Entry} → some x ≡ some y → x ≡ y
-  entryOf-some {x} {y} e = cc
+  entry_of_some : {x y : Entry} → some x ≡ some y → x ≡ y
+  entry_of_some {x} {y} e = cc
 
-  told-by : (j : ℕ) (e : Entry) (b : Bool) → ltb j o.nprobes ≡ b → at (dossierAt d o).probes j ≡ some e → get_or table j 0 ≡ bit (answer (dossierAt d o) (policy (dossierAt d o)) e)
-  unfolding answerWord answer_of policyAt dossierAt
-  told-by j e true q h =
+  told_by : (j : ℕ) (e : Entry) (b : Bool) → ltb j o.nprobes ≡ b → at (dossier_at d o).probes j ≡ some e → get_or table j 0 ≡ bit (answer (dossier_at d o) (policy (dossier_at d o)) e)
+  unfolding answer_word answer_of policy_at dossier_at
+  told_by j e true q h =
       let i = ltb-true j o.nprobes q in
-      let same = entryOf-some (sym (many-at (entry o.atoms o.ncreds) d o.probes o.nprobes j i) ∙ h) in
-      t.each j i ∙ ap (λ (x : Entry). bit (answer (dossierAt d o) (policy (dossierAt d o)) x)) same
-  told-by j e false q h =
+      let same = entry_of_some (sym (many_at (entry o.atoms o.ncreds) d o.probes o.nprobes j i) ∙ h) in
+      t.each j i ∙ ap (λ (x : Entry). bit (answer (dossier_at d o) (policy (dossier_at d o)) x)) same
+  told_by j e false q h =
       let i : o.nprobes ≤ j = omega (arith, ltb-false j o.nprobes q) in
-      absurd (nothing (sym (many-past (entry o.atoms o.ncreds) d o.probes o.nprobes j i) ∙ h))
+      absurd (nothing (sym (many_past (entry o.atoms o.ncreds) d o.probes o.nprobes j i) ∙ h))
     where
       count : Option Entry → ℕ
       count none = 0
@@ -84,27 +84,27 @@ module _ (d : List ℕ) (o : Layout) (table : List ℕ) (t : Told d o table) whe
       nothing : none ≡ some e → ⊥
       nothing z = let w : ◌≡◌ {A = ℕ} 0 1 = ap count z in omega arith
 
-  pub rules-ready : Laid d o → {a b c : List ℕ} → rules.ClauseStarts d o a → rules.CredStarts d o b → ProbeStarts d o c → {goal : Bool} → goal ≡ aim (dossierAt d o) → rules.Ready d o a b c table goal
-  rules-ready l u v w g = record { laid = l; clauses = u; creds = v; probes = w; long = t.long; told = λ j e h. told-by j e (ltb j o.nprobes) refl h; aimed = g }
+  pub rules_ready : Laid d o → {a b c : List ℕ} → rules.ClauseStarts d o a → rules.CredStarts d o b → ProbeStarts d o c → {goal : Bool} → goal ≡ aim (dossier_at d o) → rules.Ready d o a b c table goal
+  rules_ready l u v w g = record { laid = l; clauses = u; creds = v; probes = w; long = t.long; told = λ j e h. told_by j e (ltb j o.nprobes) refl h; aimed = g }
 
 -- a witness's clauses and a proof's lines are there
-pub witness-there : (n : ℕ) (c : List ℕ) {proposal : Proposal} {k : ℕ} → proposal ≡ Witness k → Proposed n c proposal → Fit (credential n) c 2 k
+pub witness_there : (n : ℕ) (c : List ℕ) {proposal : Proposal} {k : ℕ} → proposal ≡ Witness k → Proposed n c proposal → Fit (credential n) c 2 k
 unfolding Proposed
-witness-there n c e h = subst (Proposed n c) e h
+witness_there n c e h = subst (Proposed n c) e h
 
-pub proof-there : (n : ℕ) (c : List ℕ) {proposal : Proposal} {k : ℕ} → proposal ≡ Proof k → Proposed n c proposal → (1 ≤ k) × (k ≤ 1024) × Fit line c 2 k
+pub proof_there : (n : ℕ) (c : List ℕ) {proposal : Proposal} {k : ℕ} → proposal ≡ Proof k → Proposed n c proposal → (1 ≤ k) × (k ≤ 1024) × Fit line c 2 k
 unfolding Proposed
-proof-there n c e h = subst (Proposed n c) e h
+proof_there n c e h = subst (Proposed n c) e h
 
 -- r is the reply to the proposal x, and u what the table then holds, which held t
 abbrev Judged : List ℕ → Layout → List ℕ → List ℕ → Reply → List ℕ → Proposal → Type 0
-Judged d o c t r u x = Says d o c (size_of x) (certificateAt o.atoms c x) (judge (dossierAt d o) (certificateAt o.atoms c x)) t r u
+Judged d o c t r u x = Says d o c (size_of x) (certificate_at o.atoms c x) (judge (dossier_at d o) (certificate_at o.atoms c x)) t r u
 
 module _ (d : List ℕ) (o : Layout) (c : List ℕ) {proposal : Proposal} {k : ℕ} {t : List ℕ} {r : Reply} {u : List ℕ} where
-  pub witness-judged : proposal ≡ Witness k → Says d o c k (witness (many (credential o.atoms) c 2 k)) (judge (dossierAt d o) (witness (many (credential o.atoms) c 2 k))) t r u → Judged d o c t r u proposal
-  unfolding certificateAt
-  witness-judged e g = subst (Judged d o c t r u) (sym e) g
+  pub witness_judged : proposal ≡ Witness k → Says d o c k (witness (many (credential o.atoms) c 2 k)) (judge (dossier_at d o) (witness (many (credential o.atoms) c 2 k))) t r u → Judged d o c t r u proposal
+  unfolding certificate_at
+  witness_judged e g = subst (Judged d o c t r u) (sym e) g
 
-  pub proof-judged : proposal ≡ Proof k → r ≡ replyAt d o c k (judge (dossierAt d o) (proof (many line c 2 k))) → u ≡ t → Judged d o c t r u proposal
-  unfolding certificateAt roundsAt
-  proof-judged e g x = subst (Judged d o c t r u) (sym e) (record { reply = g; table = x })
+  pub proof_judged : proposal ≡ Proof k → r ≡ reply_at d o c k (judge (dossier_at d o) (proof (many line c 2 k))) → u ≡ t → Judged d o c t r u proposal
+  unfolding certificate_at rounds_at
+  proof_judged e g x = subst (Judged d o c t r u) (sym e) (record { reply = g; table = x })

@@ -3,8 +3,8 @@ use Rattle.std.specs.Prelude.{ℕ, ◌-◌, ◌<◌, ◌≤◌, ◌≡◌, List,
 use Rattle.std.proofs.Math.Option.{Option, none, some}
 use Rattle.meaning.specs.Policy.{Policy}
 use Rattle.meaning.specs.Papers as papers
-use Rattle.meaning.specs.Verdict.{Outcome, opaque, detectable, probeDiffers, secretKept, lineFails, lastNotEmpty, about, roundIn}
-use Rattle.promise.specs.Layout.{dossierAt}
+use Rattle.meaning.specs.Verdict.{Outcome, opaque, detectable, probe_differs, secret_kept, line_fails, last_not_empty, about, round_in}
+use Rattle.promise.specs.Layout.{dossier_at}
 use Rattle.promise.specs.Place.{place, filled}
 use Rattle.promise.specs.Thing.{next_of}
 use Rattle.promise.specs.declared.Layout.{Layout}
@@ -17,7 +17,7 @@ use Rattle.reply.specs.declared.Paper.{Paper}
 use Rattle.reply.specs.declared.Paper.TheVariants.{Dossier, Certificate}
 use Rattle.reply.specs.declared.Reply.{Reply}
 use Rattle.reply.specs.declared.Verdict.TheVariants.{Opaque, Detectable}
-use Rattle.evaluation.specs.Answer.{answerWord, roundOf}
+use Rattle.evaluation.specs.Answer.{answer_word, round_of}
 use Rattle.evaluation.specs.declared.Which.TheVariants.{Tried}
 use Rattle.verdict.specs.declared.Fault.{Fault}
 use Rattle.verdict.specs.declared.Fault.TheVariants as fault
@@ -27,28 +27,28 @@ unfoldable pub showing : ℕ → Paper → Thing → List ℕ → ℕ → Reply
 showing e paper t ws p = refused e paper p (next_of t ws p - p)
 
 -- 14 "that probe in the dossier", 15 "the secret in the dossier", 16 and 17 "that line"; d and c are the papers' words, and a proof has k lines
-unfoldable pub replyAt : List ℕ → Layout → List ℕ → ℕ → Outcome → Reply
-replyAt d o c k opaque = accepted Opaque
-replyAt d o c k detectable = accepted Detectable
-replyAt d o c k (probeDiffers j) = showing 14 Dossier Entry d (place (next_of Entry d) o.probes j)
-replyAt d o c k secretKept = showing 15 Dossier Entry d o.secret
-replyAt d o c k (lineFails j) = showing 16 Certificate Line c (place (next_of Line c) 2 j)
-replyAt d o c k lastNotEmpty = showing 17 Certificate Line c (place (next_of Line c) 2 (k - 1))
+unfoldable pub reply_at : List ℕ → Layout → List ℕ → ℕ → Outcome → Reply
+reply_at d o c k opaque = accepted Opaque
+reply_at d o c k detectable = accepted Detectable
+reply_at d o c k (probe_differs j) = showing 14 Dossier Entry d (place (next_of Entry d) o.probes j)
+reply_at d o c k secret_kept = showing 15 Dossier Entry d o.secret
+reply_at d o c k (line_fails j) = showing 16 Certificate Line c (place (next_of Line c) 2 j)
+reply_at d o c k last_not_empty = showing 17 Certificate Line c (place (next_of Line c) 2 (k - 1))
 
 -- The lent table t after an outcome (request A5), n being the number of atoms: "On 14 and 15 the words 0 to n - 1 of the lent table become these numbers"; "words beyond
 -- n stay. Every other reply leaves the table untouched."
 unfoldable pub numbered : ℕ → papers.Dossier → Policy → Option papers.Entry → List ℕ → List ℕ
 numbered n D W none t = t
-numbered n D W (some e) t = filled (roundIn D W e) n t
+numbered n D W (some e) t = filled (round_in D W e) n t
 
-unfoldable pub roundsAt : ℕ → papers.Dossier → papers.Certificate → Outcome → List ℕ → List ℕ
-roundsAt n D (papers.witness W) x t = numbered n D W (about D x) t
-roundsAt n D (papers.proof lines) x t = t
+unfoldable pub rounds_at : ℕ → papers.Dossier → papers.Certificate → Outcome → List ℕ → List ℕ
+rounds_at n D (papers.witness W) x t = numbered n D W (about D x) t
+rounds_at n D (papers.proof lines) x t = t
 
 -- r is the reply for the outcome x on the certificate C, and the lent table, which held t, then holds u
 pub record Says (d : List ℕ) (o : Layout) (c : List ℕ) (k : ℕ) (C : papers.Certificate) (x : Outcome) (t : List ℕ) (r : Reply) (u : List ℕ) : Type 0 where
-  pub reply : r ≡ replyAt d o c k x
-  pub table : u ≡ roundsAt o.atoms (dossierAt d o) C x t
+  pub reply : r ≡ reply_at d o c k x
+  pub table : u ≡ rounds_at o.atoms (dossier_at d o) C x t
 
 -- how many clauses a witness has, or lines a proof
 abbrev pub size_of : Proposal → ℕ
@@ -56,16 +56,16 @@ size_of (Witness k) = k
 size_of (Proof k) = k
 
 -- the lowest number at fault, as the code answers it
-unfoldable pub asFault : Option ℕ → Fault
-asFault none = fault.Nowhere
-asFault (some j) = fault.At j
+unfoldable pub as_fault : Option ℕ → Fault
+as_fault none = fault.Nowhere
+as_fault (some j) = fault.At j
 
 -- the lent table t after the search for a probe that a witness of k clauses, the words w, answers otherwise: "the words 0 to n - 1 of the lent table become these numbers"
-unfoldable pub roundsThere : List ℕ → Layout → List ℕ → ℕ → List ℕ → Fault → List ℕ → List ℕ
-roundsThere d o w k probes fault.Nowhere t = t
-roundsThere d o w k probes (fault.At j) t = filled (roundOf d o w (Tried k) (get_or probes j 0)) o.atoms t
+unfoldable pub rounds_there : List ℕ → Layout → List ℕ → ℕ → List ℕ → Fault → List ℕ → List ℕ
+rounds_there d o w k probes fault.Nowhere t = t
+rounds_there d o w k probes (fault.At j) t = filled (round_of d o w (Tried k) (get_or probes j 0)) o.atoms t
 
 -- a table that has the policy's answer to each probe
 pub record Told (d : List ℕ) (o : Layout) (told : List ℕ) : Type 0 where
   pub long : o.nprobes ≤ length told
-  pub each : (j : ℕ) → j < o.nprobes → get_or told j 0 ≡ answerWord d o j
+  pub each : (j : ℕ) → j < o.nprobes → get_or told j 0 ≡ answer_word d o j

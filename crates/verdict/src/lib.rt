@@ -8,20 +8,20 @@ ghost use Rattle.promise.specs.Place.{many, Fit};
 ghost use Rattle.promise.specs.Clause.{credential};
 ghost use Rattle.promise.specs.Code.{bit};
 ghost use Rattle.promise.specs.Formula.{FormulaFits, entry_at};
-ghost use Rattle.promise.specs.Layout.{dossierAt, Laid, certificateAt, Proposed};
+ghost use Rattle.promise.specs.Layout.{dossier_at, Laid, certificate_at, Proposed};
 ghost use Rattle.promise.specs.Line.{line_at, line};
 ghost use Rattle.promise.specs.declared.Thing.TheVariants as thing;
-ghost use Rattle.meaning.specs.Rules.{lineFollows};
+ghost use Rattle.meaning.specs.Rules.{line_follows};
 ghost use Rattle.lines.specs.Ready as rules;
 ghost use Rattle.lines.specs.Ready.{ProbeStarts};
 ghost use Rattle.promise.specs.Thing.{next_of, ok_of};
-ghost use Rattle.evaluation.specs.Held.{readIn};
+ghost use Rattle.evaluation.specs.Held.{read_in};
 ghost use Rattle.evaluation.specs.Which.{Ready};
 ghost use Rattle.evaluation.specs.declared.Which.TheVariants.{Tried};
 ghost use Rattle.reply.specs.Answer.{accepted};
 ghost use Rattle.reply.specs.declared.Paper.TheVariants as paper;
 ghost use Rattle.reply.specs.declared.Verdict.TheVariants as verdict;
-ghost use Rattle.verdict.specs.Told.{showing, replyAt, Says, size_of, asFault, roundsThere, Told};
+ghost use Rattle.verdict.specs.Told.{showing, reply_at, Says, size_of, as_fault, rounds_there, Told};
 
 use evaluation::Which;
 use promise::{Layout, Proposal, Thing};
@@ -63,7 +63,7 @@ fn refusing(number: u16, paper: Paper, thing: Thing, s: &[u16], p: usize) -> Rep
 // Whether probe i, which stands at p, is answered by the table of what holds there as the dossier's policy does, which `told` has.
 fn probe_agrees(d: &[u16], told: &[u16], i: usize, p: usize, table: &[u8]) -> bool
     requires { (i < length told.now) × ((entry_at d.now p).next ≤ length d.now) × FormulaFits (length table.now) 16 d.now (entry_at d.now p).formula }
-    ensures { result ≡ (bit (readIn d.now p table.now) is get_or told.now i 0) }
+    ensures { result ≡ (bit (read_in d.now p table.now) is get_or told.now i 0) }
 {
     let a = evaluation::answer_in(d, p, table);
     evaluation::word_of(a) == told[i]
@@ -82,8 +82,8 @@ fn first_differing(
     rounds: &mut [u16],
 ) -> Fault
     requires { Ready d.now o creds.now w.now (Tried k) × ProbeStarts d.now o probes.now × Told d.now o told.now × (o.atoms ≤ length rounds.old) }
-    ensures { (result ≡ asFault (lowest (meant.probeAgrees (dossierAt d.now o) (many (credential o.atoms) w.now 2 k)) 0 o.nprobes))
-        × (rounds.new ≡ roundsThere d.now o w.now k probes.now result rounds.old) }
+    ensures { (result ≡ as_fault (lowest (meant.probe_agrees (dossier_at d.now o) (many (credential o.atoms) w.now 2 k)) 0 o.nprobes))
+        × (rounds.new ≡ rounds_there d.now o w.now k probes.now result rounds.old) }
 {
     let n = o.nprobes;
     let m = o.atoms;
@@ -113,10 +113,10 @@ fn judge_secret(
     k: usize,
     rounds: &mut [u16],
 ) -> Reply
-    requires { Ready d.now o creds.now w.now (Tried k) × (goal ≡ aim (dossierAt d.now o)) × (o.atoms ≤ length rounds.old) }
+    requires { Ready d.now o creds.now w.now (Tried k) × (goal ≡ aim (dossier_at d.now o)) × (o.atoms ≤ length rounds.old) }
     ensures { Says d.now o w.now k (papers.witness (many (credential o.atoms) w.now 2 k)) (choose
-        (agree (papers.answer (dossierAt d.now o) (meant.tried (dossierAt d.now o) (many (credential o.atoms) w.now 2 k)) (dossierAt d.now o).secret) (not (aim (dossierAt d.now o))))
-        meant.opaque meant.secretKept) rounds.old result rounds.new }
+        (agree (papers.answer (dossier_at d.now o) (meant.tried (dossier_at d.now o) (many (credential o.atoms) w.now 2 k)) (dossier_at d.now o).secret) (not (aim (dossier_at d.now o))))
+        meant.opaque meant.secret_kept) rounds.old result rounds.new }
 {
     let p = o.secret;
     if evaluation::answer_at(d, o, creds, w, Which::Tried(k), p) != goal {
@@ -139,9 +139,9 @@ fn judge_witness(
     k: usize,
     rounds: &mut [u16],
 ) -> Reply
-    requires { Ready d.now o creds.now w.now (Tried k) × ProbeStarts d.now o probes.now × Told d.now o told.now × (goal ≡ aim (dossierAt d.now o)) × (o.atoms ≤ length rounds.old) }
+    requires { Ready d.now o creds.now w.now (Tried k) × ProbeStarts d.now o probes.now × Told d.now o told.now × (goal ≡ aim (dossier_at d.now o)) × (o.atoms ≤ length rounds.old) }
     ensures { Says d.now o w.now k (papers.witness (many (credential o.atoms) w.now 2 k))
-        (meant.judge (dossierAt d.now o) (papers.witness (many (credential o.atoms) w.now 2 k))) rounds.old result rounds.new }
+        (meant.judge (dossier_at d.now o) (papers.witness (many (credential o.atoms) w.now 2 k))) rounds.old result rounds.new }
 {
     match first_differing(d, o, creds, probes, told, w, k, rounds) {
         Fault::At(j) => refusing(14, Paper::Dossier, Thing::Entry, d, probes[j]),
@@ -163,7 +163,7 @@ fn first_failing(
     k: usize,
 ) -> Fault
     requires { rules.Ready d.now o clauses.now creds.now probes.now told.now goal × rules.LineStarts s.now k lines.now × Fit line s.now 2 k }
-    ensures { result ≡ asFault (lowest (lineFollows (dossierAt d.now o) (many line s.now 2 k)) 0 k) }
+    ensures { result ≡ as_fault (lowest (line_follows (dossier_at d.now o) (many line s.now 2 k)) 0 k) }
 {
     let mut j = 0;
     while j < k {
@@ -203,7 +203,7 @@ fn judge_proof(
     k: usize,
 ) -> Reply
     requires { rules.Ready d.now o clauses.now creds.now probes.now told.now goal × (k ≤ length lines.old) × Fit line s.now 2 k × (1 ≤ k) × (k ≤ 1024) }
-    ensures { result ≡ replyAt d.now o s.now k (meant.judge (dossierAt d.now o) (papers.proof (many line s.now 2 k))) }
+    ensures { result ≡ reply_at d.now o s.now k (meant.judge (dossier_at d.now o) (papers.proof (many line s.now 2 k))) }
 {
     promise::starts(s, 2, k, Thing::Line, lines);
     match first_failing(d, o, clauses, creds, probes, told, goal, s, lines, k) {
@@ -223,8 +223,8 @@ fn judge_lines(
     s: &[u16],
     k: usize,
 ) -> Reply
-    requires { Laid d.now o × rules.CredStarts d.now o creds.now × ProbeStarts d.now o probes.now × Told d.now o told.now × (goal ≡ aim (dossierAt d.now o)) × (1 ≤ k) × (k ≤ 1024) × Fit line s.now 2 k }
-    ensures { result ≡ replyAt d.now o s.now k (meant.judge (dossierAt d.now o) (papers.proof (many line s.now 2 k))) }
+    requires { Laid d.now o × rules.CredStarts d.now o creds.now × ProbeStarts d.now o probes.now × Told d.now o told.now × (goal ≡ aim (dossier_at d.now o)) × (1 ≤ k) × (k ≤ 1024) × Fit line s.now 2 k }
+    ensures { result ≡ reply_at d.now o s.now k (meant.judge (dossier_at d.now o) (papers.proof (many line s.now 2 k))) }
 {
     let mut clauses = [0usize; 128];
     promise::starts(d, o.clauses, o.nclauses, Thing::Clause, &mut clauses);
@@ -240,8 +240,8 @@ fn judge_lines(
 // On 14 and 15 `rounds` gets the number of the round that first adds each atom, in the policy tried with the credentials of that entry.
 pub fn judge_sound(d: &[u16], o: Layout, c: &[u16], proposal: Proposal, rounds: &mut [u16]) -> Reply
     requires { Laid d.now o × Proposed o.atoms c.now proposal × (o.atoms ≤ length rounds.old) }
-    ensures { Says d.now o c.now (size_of proposal) (certificateAt o.atoms c.now proposal)
-        (meant.judge (dossierAt d.now o) (certificateAt o.atoms c.now proposal)) rounds.old result rounds.new }
+    ensures { Says d.now o c.now (size_of proposal) (certificate_at o.atoms c.now proposal)
+        (meant.judge (dossier_at d.now o) (certificate_at o.atoms c.now proposal)) rounds.old result rounds.new }
 {
     let mut creds = [0usize; 32];
     let mut probes = [0usize; 64];

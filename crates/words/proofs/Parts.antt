@@ -6,11 +6,11 @@ use native.Mathlib.Omega.{arith}
 use lib.ListN.{length, take, drop, length-drop}
 use lib.Seq.{take_all, drop-drop}
 use Rattle.words.specs.Out.{Out, got, bad, moved, after}
-use Rattle.words.specs.Answer.{asStep}
+use Rattle.words.specs.Answer.{as_step}
 use Rattle.words.specs.declared.Step.{Step}
 use Rattle.words.specs.declared.Step.TheVariants.{Next, Refused}
-use Rattle.words.proofs.Steps.{refused, passed, step-bad, step-got}
-use Rattle.words.proofs.Promise.{Spans, OK, fine, none, In, inGot, inBad, bad-in, got_in, Reads}
+use Rattle.words.proofs.Steps.{refused, passed, step_bad, step_got}
+use Rattle.words.proofs.Promise.{Spans, OK, fine, none, In, in_got, in_bad, bad_in, got_in, Reads}
 
 -- the part from p on, as the code takes it, is the rest
 pub take_rest : (ws : List ℕ) (p : ℕ) → take (length ws - p) (drop p ws) ≡ drop p ws
@@ -18,8 +18,8 @@ take_rest ws p = take_all (length ws - p) (drop p ws) (omega (arith, length-drop
 
 in_moved : {A : Type 0} {o : Out A} (ws : List ℕ) (p : ℕ) → p ≤ length ws → In (length (drop p ws)) o → In (length ws) (moved p o)
 unfolding moved
-in_moved ws p h (inGot {p = q} i) = let z : p + q ≤ length ws = omega (arith, length-drop p ws) in inGot z
-in_moved ws p h (inBad {p = q} {w = w} i) = let z : p + q + w ≤ length ws = omega (arith, length-drop p ws) in inBad z
+in_moved ws p h (in_got {p = q} i) = let z : p + q ≤ length ws = omega (arith, length-drop p ws) in in_got z
+in_moved ws p h (in_bad {p = q} {w = w} i) = let z : p + q + w ≤ length ws = omega (arith, length-drop p ws) in in_bad z
 
 module _ {A : Type 0} {r : List ℕ → ℕ → Out A} (inside : (ws : List ℕ) (at : ℕ) → at ≤ length ws → In (length ws) (r ws at)) (ws : List ℕ) (p : ℕ) (h : p ≤ length ws) where
   pub in_after : In (length ws) (after r ws p)
@@ -27,37 +27,37 @@ module _ {A : Type 0} {r : List ℕ → ℕ → Out A} (inside : (ws : List ℕ)
   in_after = in_moved ws p h (inside (drop p ws) 0 (omega arith))
 
   -- what was found in the part
-  pub after-bad : {e q w : ℕ} → r (take (length ws - p) (drop p ws)) 0 ≡ bad e q w → (p + q ≤ length ws) × (after r ws p ≡ bad e (p + q) w)
+  pub after_bad : {e q w : ℕ} → r (take (length ws - p) (drop p ws)) 0 ≡ bad e q w → (p + q ≤ length ws) × (after r ws p ≡ bad e (p + q) w)
   unfolding after moved
-  after-bad {e} {q} {w} g =
+  after_bad {e} {q} {w} g =
       let b : after r ws p ≡ bad e (p + q) w = ap (λ l. moved p (r l 0)) (sym (take_rest ws p)) ∙ ap (moved p) g in
-      (omega (arith, bad-in in_after b), b)
+      (omega (arith, bad_in in_after b), b)
 
-  pub after-got : {v : A} {q : ℕ} → r (take (length ws - p) (drop p ws)) 0 ≡ got v q → (p + q ≤ length ws) × (after r ws p ≡ got v (p + q))
+  pub after_got : {v : A} {q : ℕ} → r (take (length ws - p) (drop p ws)) 0 ≡ got v q → (p + q ≤ length ws) × (after r ws p ≡ got v (p + q))
   unfolding after moved
-  after-got {v} {q} g =
+  after_got {v} {q} g =
       let b : after r ws p ≡ got v (p + q) = ap (λ l. moved p (r l 0)) (sym (take_rest ws p)) ∙ ap (moved p) g in
       (got_in in_after b, b)
 
   -- the same of the answer on the part
-  module _ {a : Step} (is : a ≡ asStep (r (take (length ws - p) (drop p ws)) 0)) where
-    pub part-refused : {e q w : ℕ} → a ≡ Refused e q w → (p + q ≤ length ws) × (asStep (after r ws p) ≡ Refused e (p + q) w)
-    part-refused g = let b = after-bad (refused _ is g) in (b.0, step-bad b.1)
+  module _ {a : Step} (is : a ≡ as_step (r (take (length ws - p) (drop p ws)) 0)) where
+    pub part_refused : {e q w : ℕ} → a ≡ Refused e q w → (p + q ≤ length ws) × (as_step (after r ws p) ≡ Refused e (p + q) w)
+    part_refused g = let b = after_bad (refused _ is g) in (b.0, step_bad b.1)
 
-    pub part-passed : {q : ℕ} → a ≡ Next q → (p + q ≤ length ws) × (asStep (after r ws p) ≡ Next (p + q))
-    part-passed g = let b = after-got (passed _ is g).1 in (b.0, step-got b.1)
+    pub part_passed : {q : ℕ} → a ≡ Next q → (p + q ≤ length ws) × (as_step (after r ws p) ≡ Next (p + q))
+    part_passed g = let b = after_got (passed _ is g).1 in (b.0, step_got b.1)
 
 -- the promise of a reader holds of the reader of the part that begins at the place
-pub reads-after : {A : Type 0} {r : List ℕ → ℕ → Out A} {code : A → List ℕ} {Form : A → Type 0} → Reads r code Form → Reads (after r) code Form
+pub reads_after : {A : Type 0} {r : List ℕ → ℕ → Out A} {code : A → List ℕ} {Form : A → Type 0} → Reads r code Form → Reads (after r) code Form
 unfolding after moved
-reads-after {A} {r} {code} {Form} R =
+reads_after {A} {r} {code} {Form} R =
     record {
-      sound = λ ws p. ok-moved ws p (R.sound (drop p ws) 0);
+      sound = λ ws p. ok_moved ws p (R.sound (drop p ws) 0);
       exact = λ ws p x rest h f. ap (moved p) (R.exact (drop p ws) 0 x rest h f) ∙ ap (got x) (omega arith);
       inside = in_after R.inside;
     }
   where
-    ok-moved : (ws : List ℕ) (p : ℕ) {o : Out A} → OK (λ x q. Spans (drop p ws) 0 (code x) q × Form x) o → OK (λ x q. Spans ws p (code x) q × Form x) (moved p o)
-    ok-moved ws p (fine {v = x} {p = q} s) =
+    ok_moved : (ws : List ℕ) (p : ℕ) {o : Out A} → OK (λ x q. Spans (drop p ws) 0 (code x) q × Form x) o → OK (λ x q. Spans ws p (code x) q × Form x) (moved p o)
+    ok_moved ws p (fine {v = x} {p = q} s) =
         fine {p = p + q} (record { words = s.0.words ∙ ap (λ l. code x ++ l) (drop-drop q p ws); next = omega (arith, s.0.next) }, s.1)
-    ok-moved ws p none = none
+    ok_moved ws p none = none

@@ -2,16 +2,16 @@
 use Rattle.std.specs.Prelude.{ℕ, suc, ◌≤◌, List, [], ◌∷◌, ◌++◌, length}
 
 -- "each after its count"
-abbrev pub codeList : List ℕ → List ℕ
-codeList xs = length xs ∷ xs
+abbrev pub code_list : List ℕ → List ℕ
+code_list xs = length xs ∷ xs
 
 -- things one after the other, and a section of them
-unfoldable pub codeAll : {A : Type 0} → (A → List ℕ) → List A → List ℕ
-codeAll code [] = []
-codeAll code (x ∷ xs) = code x ++ codeAll code xs
+unfoldable pub code_all : {A : Type 0} → (A → List ℕ) → List A → List ℕ
+code_all code [] = []
+code_all code (x ∷ xs) = code x ++ code_all code xs
 
-abbrev pub codeMany : {A : Type 0} → (A → List ℕ) → List A → List ℕ
-codeMany code xs = length xs ∷ codeAll code xs
+abbrev pub code_many : {A : Type 0} → (A → List ℕ) → List A → List ℕ
+code_many code xs = length xs ∷ code_all code xs
 
 -- strictly rising, the first at least low
 unfoldable pub RisingFrom : ℕ → List ℕ → Type 0

@@ -1,7 +1,7 @@
 // Words, and rising lists of them, read at a position: what every reader of a paper shares.
 ghost use Rattle.std.specs.Prelude.{◌≡◌, length};
 ghost use Rattle.words.specs.Read.{ranged, next, rising, listed};
-ghost use Rattle.words.specs.Answer.{asStep, asGot, asLow, tested};
+ghost use Rattle.words.specs.Answer.{as_step, as_got, as_low, tested};
 ghost use Rattle.words.specs.declared.Got.TheVariants.{Stop};
 
 // The next position, or the refusal: its number, its place, and how many words it shows.
@@ -34,7 +34,7 @@ fn ended(s: &[u16]) -> Got
 
 // The word at `at`, which is to be at least lo and below hi; else refusal e.
 pub fn word_in(s: &[u16], at: usize, lo: usize, hi: usize, e: u16) -> Got
-    ensures { result ≡ asGot (ranged lo hi e s.now at) }
+    ensures { result ≡ as_got (ranged lo hi e s.now at) }
 {
     if s.len() <= at {
         return ended(s);
@@ -74,7 +74,7 @@ fn in_range(range: Range, x: usize) -> Tested
 
 // The word at p, which is to be in the range and at least low; told by the least that the word after it may be.
 fn next_word(s: &[u16], p: usize, low: usize, range: Range) -> Got
-    ensures { result ≡ asLow (next range low s.now p) }
+    ensures { result ≡ as_low (next range low s.now p) }
 {
     if s.len() <= p {
         return ended(s);
@@ -94,7 +94,7 @@ fn next_word(s: &[u16], p: usize, low: usize, range: Range) -> Got
 
 // k words from `at` on, each in the range, strictly rising.
 pub fn rising_words(s: &[u16], at: usize, k: usize, range: Range) -> Step
-    ensures { result ≡ asStep (rising range 0 k s.now at) }
+    ensures { result ≡ as_step (rising range 0 k s.now at) }
 {
     let mut left = k;
     let mut low: usize = 0;
@@ -116,7 +116,7 @@ pub fn rising_words(s: &[u16], at: usize, k: usize, range: Range) -> Step
 
 // A list: a count that is at least lo and below hi, and so many words.
 pub fn list_at(s: &[u16], at: usize, lo: usize, hi: usize, range: Range) -> Step
-    ensures { result ≡ asStep (listed lo hi range s.now at) }
+    ensures { result ≡ as_step (listed lo hi range s.now at) }
 {
     match word_in(s, at, lo, hi, 2) {
         Got::Stop(e, p, w) => Step::Refused(e, p, w),

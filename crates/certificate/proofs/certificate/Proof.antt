@@ -1,8 +1,8 @@
 -- `certificate::certificate` meets its contract: the length, then the kind, then the witness or the proof.
 use mathlib.Core.Path.{◌∙◌}
 use native.Mathlib.Omega.{arith}
-use Rattle.words.proofs.Steps.{stopped, readWord}
-use Rattle.certificate.proofs.Whole.{too_long, kind-bad, kind-witness, kind-proof}
+use Rattle.words.proofs.Steps.{stopped, read_word}
+use Rattle.certificate.proofs.Whole.{too_long, kind_bad, kind_witness, kind_proof}
 use borrow.Author.Rules.{rules}
 use Rattle.certificate.proofs.certificate.Statement.{statement}
 use Rattle.certificate.proofs.certificate.Tie as tie
@@ -20,19 +20,19 @@ enum-known-kind : tie.Need-enum-known-kind
 enum-known-kind c = search rules
 
 witness-after-requires : tie.Need-witness-after-requires
-witness-after-requires c κs = omega (arith, (readWord _ _ _ _ _ c.before.before.before.before.word_in.ensures c.before.before.kind.given.1).here)
+witness-after-requires c κs = omega (arith, (read_word _ _ _ _ _ c.before.before.before.before.word_in.ensures c.before.before.kind.given.1).here)
 
 returns-2 : tie.Need-returns-2
-returns-2 c = c.witness-after.ensures ∙ kind-witness _ _ _ c.before.before.before.before.before.before.if1.false (readWord _ _ _ _ _ c.before.before.before.before.before.word_in.ensures c.before.before.before.kind.given.1).is c.before.if2.true
+returns-2 c = c.witness-after.ensures ∙ kind_witness _ _ _ c.before.before.before.before.before.before.if1.false (read_word _ _ _ _ _ c.before.before.before.before.before.word_in.ensures c.before.before.before.kind.given.1).is c.before.if2.true
 
 proof-after-requires : tie.Need-proof-after-requires
-proof-after-requires c κs = omega (arith, (readWord _ _ _ _ _ c.before.before.before.before.word_in.ensures c.before.before.kind.given.1).here)
+proof-after-requires c κs = omega (arith, (read_word _ _ _ _ _ c.before.before.before.before.word_in.ensures c.before.before.kind.given.1).here)
 
 returns-3 : tie.Need-returns-3
-returns-3 c = kind-bad _ _ _ c.before.before.before.before.if1.false (stopped _ c.before.before.before.word_in.ensures c.before.e.given.1)
+returns-3 c = kind_bad _ _ _ c.before.before.before.before.if1.false (stopped _ c.before.before.before.word_in.ensures c.before.e.given.1)
 
 returns-4 : tie.Need-returns-4
-returns-4 c = c.proof-after.ensures ∙ kind-proof _ _ _ c.before.before.before.before.before.before.if1.false (readWord _ _ _ _ _ c.before.before.before.before.before.word_in.ensures c.before.before.before.kind.given.1).is c.before.if2.false
+returns-4 c = c.proof-after.ensures ∙ kind_proof _ _ _ c.before.before.before.before.before.before.if1.false (read_word _ _ _ _ _ c.before.before.before.before.before.word_in.ensures c.before.before.before.kind.given.1).is c.before.if2.false
 
 pub certificate-spec : {M : Type 1} → statement M
 certificate-spec =

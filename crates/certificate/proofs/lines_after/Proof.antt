@@ -1,9 +1,9 @@
 -- `certificate::lines_after` meets its contract: the part answers, and its places are moved by where it begins.
 use mathlib.Core.Path.{sym}
 use native.Mathlib.Omega.{arith}
-use Rattle.dossier.proofs.Sections.{moved-stop, moved-counted}
+use Rattle.dossier.proofs.Sections.{moved_stop, moved_counted}
 use Rattle.certificate.specs.Read.{line}
-use Rattle.certificate.proofs.Lines.{reads-line}
+use Rattle.certificate.proofs.Lines.{reads_line}
 use borrow.Author.Rules.{rules}
 use Rattle.certificate.proofs.lines_after.Statement.{statement}
 use Rattle.certificate.proofs.lines_after.Tie as tie
@@ -29,7 +29,7 @@ enum-known-e c = search rules
 add-t17 : tie.Need-overflow-add-t17
 add-t17 c =
     let a = c.before.before.before.before.before.before.args in
-    omega (arith, (moved-stop (line a.n a.m) 1 1025 a.s.now (reads-line a.n a.m).inside a.p c.before.before.before.before.before.before.requires c.before.before.before.lines_of.ensures c.before.e.given.1).0)
+    omega (arith, (moved_stop (line a.n a.m) 1 1025 a.s.now (reads_line a.n a.m).inside a.p c.before.before.before.before.before.before.requires c.before.before.before.lines_of.ensures c.before.e.given.1).0)
 
 enum-known-k : tie.Need-enum-known-k
 enum-known-k c = search rules
@@ -37,17 +37,17 @@ enum-known-k c = search rules
 add-t18 : tie.Need-overflow-add-t18
 add-t18 c =
     let a = c.before.before.before.before.before.before.args in
-    omega (arith, (moved-counted (line a.n a.m) 1 1025 a.s.now (reads-line a.n a.m).inside a.p c.before.before.before.before.before.before.requires c.before.before.before.lines_of.ensures c.before.k.given.1).0)
+    omega (arith, (moved_counted (line a.n a.m) 1 1025 a.s.now (reads_line a.n a.m).inside a.p c.before.before.before.before.before.before.requires c.before.before.before.lines_of.ensures c.before.k.given.1).0)
 
 returns : tie.Need-returns
 returns c =
     let a = c.before.before.before.before.before.before.args in
-    sym (moved-stop (line a.n a.m) 1 1025 a.s.now (reads-line a.n a.m).inside a.p c.before.before.before.before.before.before.requires c.before.before.before.lines_of.ensures c.before.e.given.1).1
+    sym (moved_stop (line a.n a.m) 1 1025 a.s.now (reads_line a.n a.m).inside a.p c.before.before.before.before.before.before.requires c.before.before.before.lines_of.ensures c.before.e.given.1).1
 
 returns-2 : tie.Need-returns-2
 returns-2 c =
     let a = c.before.before.before.before.before.before.args in
-    sym (moved-counted (line a.n a.m) 1 1025 a.s.now (reads-line a.n a.m).inside a.p c.before.before.before.before.before.before.requires c.before.before.before.lines_of.ensures c.before.k.given.1).1
+    sym (moved_counted (line a.n a.m) 1 1025 a.s.now (reads_line a.n a.m).inside a.p c.before.before.before.before.before.before.requires c.before.before.before.lines_of.ensures c.before.k.given.1).1
 
 pub lines-after-spec : {M : Type 1} → statement M
 lines-after-spec =

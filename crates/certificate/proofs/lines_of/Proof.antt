@@ -1,7 +1,7 @@
 -- `certificate::lines_of` meets its contract: the count is refused or read, and the lines answer for the rest.
 use mathlib.Core.Path.{sym}
-use Rattle.words.proofs.Steps.{stopped, readWord}
-use Rattle.dossier.proofs.Sections.{part-stop, part-bad, part-counted}
+use Rattle.words.proofs.Steps.{stopped, read_word}
+use Rattle.dossier.proofs.Sections.{part_stop, part_bad, part_counted}
 use borrow.Author.Rules.{rules}
 use Rattle.certificate.proofs.lines_of.Statement.{statement}
 use Rattle.certificate.proofs.lines_of.Tie as tie
@@ -25,13 +25,13 @@ enum-known-p : tie.Need-enum-known-p
 enum-known-p c = search rules
 
 returns : tie.Need-returns
-returns c = sym (part-stop _ _ _ _ (stopped _ c.before.before.before.word_in.ensures c.before.e.given.1))
+returns c = sym (part_stop _ _ _ _ (stopped _ c.before.before.before.word_in.ensures c.before.e.given.1))
 
 returns-2 : tie.Need-returns-2
-returns-2 c = sym (part-bad _ _ _ _ (readWord _ _ _ _ _ c.before.before.before.before.before.before.before.word_in.ensures c.before.before.before.before.before.k.given.1).is c.before.before.before.lines_from.ensures c.before.e2.given.1)
+returns-2 c = sym (part_bad _ _ _ _ (read_word _ _ _ _ _ c.before.before.before.before.before.before.before.word_in.ensures c.before.before.before.before.before.k.given.1).is c.before.before.before.lines_from.ensures c.before.e2.given.1)
 
 returns-3 : tie.Need-returns-3
-returns-3 c = sym (part-counted _ _ _ _ (readWord _ _ _ _ _ c.before.before.before.before.before.before.before.word_in.ensures c.before.before.before.before.before.k.given.1).is c.before.before.before.lines_from.ensures c.before.p.given.1)
+returns-3 c = sym (part_counted _ _ _ _ (read_word _ _ _ _ _ c.before.before.before.before.before.before.before.word_in.ensures c.before.before.before.before.before.k.given.1).is c.before.before.before.lines_from.ensures c.before.p.given.1)
 
 pub lines-of-spec : {M : Type 1} → statement M
 lines-of-spec =

@@ -2,7 +2,7 @@
 use Prim.Native.Nat.{◌-◌}
 use mathlib.Core.Path.{sym}
 use borrow.Author.Rules.{rules}
-use Rattle.certificate.proofs.Several.{State, state-first, state-none, state-bad, state-on}
+use Rattle.certificate.proofs.Several.{State, state_first, state_none, state_bad, state_on}
 use Rattle.certificate.proofs.literals_at.Statement.{statement}
 use Rattle.certificate.proofs.literals_at.Tie as tie
 
@@ -13,7 +13,7 @@ abbrev decreases-loop : tie.decreases-loop
 decreases-loop s at k n m done₀ p₀ done p = k - done
 
 loop-holds : tie.Need-loop-init invariant-loop decreases-loop
-loop-holds c = state-first
+loop-holds c = state_first
 
 next-literal-requires : tie.Need-next-literal-requires invariant-loop decreases-loop
 next-literal-requires c κs = c.before.loop.invariant.fit
@@ -22,7 +22,7 @@ enum-known-e : tie.Need-enum-known-e invariant-loop decreases-loop
 enum-known-e c = search rules
 
 returns : tie.Need-returns invariant-loop decreases-loop
-returns c = sym (state-bad c.before.before.before.before.before.loop.invariant c.before.before.before.before.loop-test.true c.before.before.before.next-literal.ensures c.before.e.given.1)
+returns c = sym (state_bad c.before.before.before.before.before.loop.invariant c.before.before.before.before.loop-test.true c.before.before.before.next-literal.ensures c.before.e.given.1)
 
 enum-known-q : tie.Need-enum-known-q invariant-loop decreases-loop
 enum-known-q c = search rules
@@ -34,10 +34,10 @@ loop-less : tie.Need-loop-smaller invariant-loop decreases-loop
 loop-less c = search rules
 
 loop-again : tie.Need-loop-preserved invariant-loop decreases-loop
-loop-again c = state-on c.before.before.before.before.before.loop.invariant c.before.before.before.before.loop-test.true c.before.before.before.next-literal.ensures c.before.q.given.1
+loop-again c = state_on c.before.before.before.before.before.loop.invariant c.before.before.before.before.loop-test.true c.before.before.before.next-literal.ensures c.before.q.given.1
 
 returns-2 : tie.Need-returns-2 invariant-loop decreases-loop
-returns-2 c = sym (state-none c.before.loop.invariant c.loop-test.false)
+returns-2 c = sym (state_none c.before.loop.invariant c.loop-test.false)
 
 pub literals-at-spec : {M : Type 1} → statement M
 literals-at-spec =

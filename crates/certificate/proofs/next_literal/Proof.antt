@@ -1,7 +1,7 @@
 -- `certificate::next_literal` meets its contract: the literal is refused, or was read, and is tested for 13.
 use mathlib.Core.Path.{sym}
 use Rattle.words.proofs.Steps.{refused}
-use Rattle.certificate.proofs.Several.{lit, one-stop, one-twice, one_on}
+use Rattle.certificate.proofs.Several.{lit, one_stop, one_twice, one_on}
 use borrow.Author.Rules.{rules}
 use Rattle.certificate.proofs.next_literal.Statement.{statement}
 use Rattle.certificate.proofs.next_literal.Tie as tie
@@ -19,10 +19,10 @@ spoken-at-requires : tie.Need-spoken-at-requires
 spoken-at-requires c κs = (c.before.before.before.before.before.requires, (lit _ _ _ _ c.before.before.before.literal-at.ensures c.before.q.given.1).ok)
 
 returns : tie.Need-returns
-returns c = sym (one-stop _ _ _ _ _ (refused _ c.before.before.before.literal-at.ensures c.before.e.given.1))
+returns c = sym (one_stop _ _ _ _ _ (refused _ c.before.before.before.literal-at.ensures c.before.e.given.1))
 
 returns-2 : tie.Need-returns-2
-returns-2 c = sym (one-twice _ _ _ _ _ (lit _ _ _ _ c.before.before.before.before.before.literal-at.ensures c.before.before.before.q.given.1).is c.before.spoken-at.ensures c.if1.true)
+returns-2 c = sym (one_twice _ _ _ _ _ (lit _ _ _ _ c.before.before.before.before.before.literal-at.ensures c.before.before.before.q.given.1).is c.before.spoken-at.ensures c.if1.true)
 
 returns-3 : tie.Need-returns-3
 returns-3 c = sym (one_on _ _ _ _ _ (lit _ _ _ _ c.before.before.before.before.before.literal-at.ensures c.before.before.before.q.given.1).is c.before.spoken-at.ensures c.if1.false)

@@ -6,7 +6,7 @@ use native.Mathlib.Omega.{arith}
 use borrow.Fn.Kinds.{In}
 use borrow.Fn.PlainCycle.{Measures, is, falls, and}
 use Rattle.words.proofs.Steps.{refused, passed}
-use Rattle.dossier.proofs.Operand.{op-deep, op-past, op-atom, op-strange, op-true, op-not, op-bad, op-both}
+use Rattle.dossier.proofs.Operand.{op_deep, op_past, op_atom, op_strange, op_true, op_not, op_bad, op_both}
 use Rattle.dossier.proofs.Formula.{high, unknown}
 use Rattle.dossier.proofs.operand_at.Reads as f
 use Rattle.dossier.proofs.operand_at.Kinds as kinds
@@ -24,10 +24,10 @@ abbrev below : ℕ → In 1 kinds.ps
 below t = and 1 kinds.ps (falls 1 kinds.ps ◌<◌ μ t) f.Pre
 
 returns : (t : ℕ) → lts.Need-returns (below t, f.Post) (at t) f.Post
-returns t c = sym (op-deep _ _ _ _ _ _ c.if1.true)
+returns t c = sym (op_deep _ _ _ _ _ _ c.if1.true)
 
 returns-2 : (t : ℕ) → lts.Need-returns-2 (below t, f.Post) (at t) f.Post
-returns-2 t c = sym (op-past _ _ _ _ _ _ c.if2.true)
+returns-2 t c = sym (op_past _ _ _ _ _ _ c.if2.true)
 
 mul-x : (t : ℕ) → lts.Need-overflow-mul-x (below t, f.Post) (at t) f.Post
 mul-x t c = search rules
@@ -44,12 +44,12 @@ add-t16 t c = search rules
 returns-3 : (t : ℕ) → lts.Need-returns-3 (below t, f.Post) (at t) f.Post
 returns-3 t c =
     let i = c in
-    sym (op-atom _ _ _ _ _ _ i.before.before.before.if1.left i.before.before.if2.left i.if3.taken)
+    sym (op_atom _ _ _ _ _ _ i.before.before.before.if1.left i.before.before.if2.left i.if3.taken)
 
 returns-4 : (t : ℕ) → lts.Need-returns-4 (below t, f.Post) (at t) f.Post
 returns-4 t c =
     let i = c in
-    sym (op-strange _ _ _ _ _ _ i.before.before.before.before.if1.left i.before.before.before.if2.left (high i.before.if3.left i.if4.taken))
+    sym (op_strange _ _ _ _ _ _ i.before.before.before.before.if1.left i.before.before.before.if2.left (high i.before.if3.left i.if4.taken))
 
 add-t17 : (t : ℕ) → lts.Need-overflow-add-t17 (below t, f.Post) (at t) f.Post
 add-t17 t c = search rules
@@ -57,7 +57,7 @@ add-t17 t c = search rules
 returns-5 : (t : ℕ) → lts.Need-returns-5 (below t, f.Post) (at t) f.Post
 returns-5 t c =
     let i = c in
-    sym (op-true _ _ _ _ _ _ i.before.before.before.before.before.if1.left i.before.before.before.before.if2.left i.before.before.if3.left i.before.if4.left i.if5.taken)
+    sym (op_true _ _ _ _ _ _ i.before.before.before.before.before.if1.left i.before.before.before.before.if2.left i.before.before.if3.left i.before.if4.left i.if5.taken)
 
 sub-operand-at : (t : ℕ) → lts.Need-overflow-sub-operand-at (below t, f.Post) (at t) f.Post
 sub-operand-at t c = search rules
@@ -71,12 +71,12 @@ operand-at-requires t c κs = search rules
 returns-6 : (t : ℕ) → lts.Need-returns-6 (below t, f.Post) (at t) f.Post
 returns-6 t c =
     let i = c.before in
-    c.Operand-at.ensures ∙ sym (op-not _ _ _ _ _ _ i.before.before.before.before.before.before.if1.false i.before.before.before.before.before.if2.false i.before.before.before.if3.false i.before.before.if4.false i.before.if5.false i.if6.true)
+    c.Operand-at.ensures ∙ sym (op_not _ _ _ _ _ _ i.before.before.before.before.before.before.if1.false i.before.before.before.before.before.if2.false i.before.before.before.if3.false i.before.before.if4.false i.before.if5.false i.if6.true)
 
 returns-7 : (t : ℕ) → lts.Need-returns-7 (below t, f.Post) (at t) f.Post
 returns-7 t c =
     let i = c in
-    sym (op-strange _ _ _ _ _ _ i.before.before.before.before.before.before.before.if1.left i.before.before.before.before.before.before.if2.left (unknown i.before.before.before.before.if3.left i.if7.taken))
+    sym (op_strange _ _ _ _ _ _ i.before.before.before.before.before.before.before.if1.left i.before.before.before.before.before.before.if2.left (unknown i.before.before.before.before.if3.left i.if7.taken))
 
 sub-operand-at-2 : (t : ℕ) → lts.Need-overflow-sub-operand-at-2 (below t, f.Post) (at t) f.Post
 sub-operand-at-2 t c = search rules
@@ -102,12 +102,12 @@ operand-at-requires-3 t c κs = search rules
 returns-8 : (t : ℕ) → lts.Need-returns-8 (below t, f.Post) (at t) f.Post
 returns-8 t c =
     let i = c.before.before.before.before in
-    sym (op-bad _ _ _ _ _ _ i.before.before.before.before.before.before.before.if1.false i.before.before.before.before.before.before.if2.false i.before.before.before.before.if3.false i.before.before.before.if4.false i.before.before.if5.false i.before.if6.false i.if7.false (refused _ c.before.before.before.operand-at2.ensures c.before.e.given.1))
+    sym (op_bad _ _ _ _ _ _ i.before.before.before.before.before.before.before.if1.false i.before.before.before.before.before.before.if2.false i.before.before.before.before.if3.false i.before.before.before.if4.false i.before.before.if5.false i.before.if6.false i.if7.false (refused _ c.before.before.before.operand-at2.ensures c.before.e.given.1))
 
 returns-9 : (t : ℕ) → lts.Need-returns-9 (below t, f.Post) (at t) f.Post
 returns-9 t c =
     let i = c.before.before.before.before.before in
-    c.operand-at3.ensures ∙ sym (op-both _ _ _ _ _ _ i.before.before.before.before.before.before.before.if1.false i.before.before.before.before.before.before.if2.false i.before.before.before.before.if3.false i.before.before.before.if4.false i.before.before.if5.false i.before.if6.false i.if7.false (passed _ c.before.before.before.before.operand-at2.ensures c.before.before.p.given.1))
+    c.operand-at3.ensures ∙ sym (op_both _ _ _ _ _ _ i.before.before.before.before.before.before.before.if1.false i.before.before.before.before.before.before.if2.false i.before.before.before.before.if3.false i.before.before.before.if4.false i.before.before.if5.false i.before.if6.false i.if7.false (passed _ c.before.before.before.before.operand-at2.ensures c.before.before.p.given.1))
 
 pub +operand-at-spec : {M : Type 1} → statement M
 +operand-at-spec = close μ λ t. lts.spec (below t, f.Post) (at t) f.Post

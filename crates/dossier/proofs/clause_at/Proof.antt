@@ -1,7 +1,7 @@
 -- `dossier::clause_at` meets its contract: the head is refused or read, and the body answers for the rest.
 use Rattle.dossier.specs.Read.{clause}
-use Rattle.words.proofs.Steps.{stopped, readWord, step-made}
-use Rattle.words.specs.Answer.{asStep}
+use Rattle.words.proofs.Steps.{stopped, read_word, step_made}
+use Rattle.words.specs.Answer.{as_step}
 use borrow.Author.Rules.{rules}
 use native.Mathlib.Omega.{arith}
 use Rattle.dossier.proofs.clause_at.Statement.{statement}
@@ -17,18 +17,18 @@ enum_told : tie.Need-enum-told
 enum_told c = search rules
 
 add-list-at : tie.Need-overflow-add-list-at
-add-list-at c = omega (arith, (readWord _ _ _ _ _ c.before.before.word_in.ensures c.enum_told.given.1).here)
+add-list-at c = omega (arith, (read_word _ _ _ _ _ c.before.before.word_in.ensures c.enum_told.given.1).here)
 
 list-at-requires : tie.Need-list-at-requires
 list-at-requires c κs = search rules
 
 returns : tie.Need-returns
-unfolding clause asStep
+unfolding clause as_step
 returns c = simp (stopped _ c.before.before.before.word_in.ensures c.before.e.given.1)
 
 returns-2 : tie.Need-returns-2
 unfolding clause
-returns-2 c = simp ((readWord _ _ _ _ _ c.before.before.before.word_in.ensures c.before.enum_told.given.1).is, step-made) c.list_at.ensures
+returns-2 c = simp ((read_word _ _ _ _ _ c.before.before.before.word_in.ensures c.before.enum_told.given.1).is, step_made) c.list_at.ensures
 
 pub clause-at-spec : {M : Type 1} → statement M
 clause-at-spec =

@@ -1,6 +1,6 @@
 -- `dossier::entry_at` meets its contract: the credentials are refused or read, and the formula answers for the rest.
 use Rattle.dossier.specs.Read.{entry}
-use Rattle.words.proofs.Steps.{refused, passed, step-bad, step-made}
+use Rattle.words.proofs.Steps.{refused, passed, step_bad, step_made}
 use borrow.Author.Rules.{rules}
 use mathlib.Core.Path.{sym}
 use Rattle.dossier.proofs.entry_at.Statement.{statement}
@@ -20,11 +20,11 @@ formula-at-requires c κs = search rules
 
 returns : tie.Need-returns
 unfolding entry
-returns c = sym (step-bad (simp (refused _ c.before.before.before.list_at.ensures c.before.e.given.1)))
+returns c = sym (step_bad (simp (refused _ c.before.before.before.list_at.ensures c.before.e.given.1)))
 
 returns-2 : tie.Need-returns-2
 unfolding entry
-returns-2 c = simp ((passed _ c.before.before.before.before.list_at.ensures c.before.before.p.given.1).1, step-made) c.formula-at.ensures
+returns-2 c = simp ((passed _ c.before.before.before.before.list_at.ensures c.before.before.p.given.1).1, step_made) c.formula-at.ensures
 
 pub entry-at-spec : {M : Type 1} → statement M
 entry-at-spec =

@@ -1,5 +1,5 @@
 -- `dossier::item_at` meets its contract: in each arm the item is known, and its reader answers.
-use Rattle.dossier.specs.Found.{itemStep}
+use Rattle.dossier.specs.Found.{item_step}
 use borrow.Author.Rules.{rules}
 use Rattle.dossier.proofs.item_at.Statement.{statement}
 use Rattle.dossier.proofs.item_at.Tie as tie
@@ -23,15 +23,15 @@ entry-at-requires : tie.Need-entry-at-requires
 entry-at-requires c κs = search rules
 
 returns : tie.Need-returns
-unfolding itemStep
+unfolding item_step
 returns c = rw c.before.enum_told.given.1 c.marked-at.ensures
 
 returns-2 : tie.Need-returns-2
-unfolding itemStep
+unfolding item_step
 returns-2 c = rw c.before.enum-told2.given.1 c.clause-at.ensures
 
 returns-3 : tie.Need-returns-3
-unfolding itemStep
+unfolding item_step
 returns-3 c = rw c.before.enum-told3.given.1 c.entry_at.ensures
 
 pub item-at-spec : {M : Type 1} → statement M

@@ -1,5 +1,5 @@
 -- `dossier::section_after` meets its contract: the part answers, and its places are moved by where it begins.
-use Rattle.dossier.proofs.Sections.{after_stop, after-counted}
+use Rattle.dossier.proofs.Sections.{after_stop, after_counted}
 use borrow.Author.Rules.{rules}
 use mathlib.Core.Path.{sym}
 use native.Mathlib.Omega.{arith}
@@ -35,7 +35,7 @@ enum-known-k c = search rules
 add-t21 : tie.Need-overflow-add-t21
 add-t21 c =
     let a = c.before.before.before.before.before.before.args in
-    omega (arith, (after-counted a.n a.m a.lo a.hi a.s.now a.p c.before.before.before.before.before.before.requires a.item c.before.before.before.section-of.ensures c.before.k.given.1).0)
+    omega (arith, (after_counted a.n a.m a.lo a.hi a.s.now a.p c.before.before.before.before.before.before.requires a.item c.before.before.before.section-of.ensures c.before.k.given.1).0)
 
 returns : tie.Need-returns
 returns c =
@@ -45,7 +45,7 @@ returns c =
 returns-2 : tie.Need-returns-2
 returns-2 c =
     let a = c.before.before.before.before.before.before.args in
-    sym (after-counted a.n a.m a.lo a.hi a.s.now a.p c.before.before.before.before.before.before.requires a.item c.before.before.before.section-of.ensures c.before.k.given.1).1
+    sym (after_counted a.n a.m a.lo a.hi a.s.now a.p c.before.before.before.before.before.before.requires a.item c.before.before.before.section-of.ensures c.before.k.given.1).1
 
 pub section-after-spec : {M : Type 1} → statement M
 section-after-spec =

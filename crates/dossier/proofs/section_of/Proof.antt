@@ -1,6 +1,6 @@
 -- `dossier::section_of` meets its contract: the count is refused or read, and the items answer for the rest.
-use Rattle.dossier.proofs.Sections.{item-stop, item-bad, item-counted}
-use Rattle.words.proofs.Steps.{stopped, readWord}
+use Rattle.dossier.proofs.Sections.{item_stop, item_bad, item_counted}
+use Rattle.words.proofs.Steps.{stopped, read_word}
 use borrow.Author.Rules.{rules}
 use mathlib.Core.Path.{sym}
 use Rattle.dossier.proofs.section_of.Statement.{statement}
@@ -25,13 +25,13 @@ enum-known-p : tie.Need-enum-known-p
 enum-known-p c = search rules
 
 returns : tie.Need-returns
-returns c = sym (item-stop _ _ _ _ _ _ (stopped _ c.before.before.before.word_in.ensures c.before.e.given.1))
+returns c = sym (item_stop _ _ _ _ _ _ (stopped _ c.before.before.before.word_in.ensures c.before.e.given.1))
 
 returns-2 : tie.Need-returns-2
-returns-2 c = sym (item-bad _ _ _ _ _ _ (readWord _ _ _ _ _ c.before.before.before.before.before.before.before.word_in.ensures c.before.before.before.before.before.k.given.1).is c.before.before.before.items-from.ensures c.before.e2.given.1)
+returns-2 c = sym (item_bad _ _ _ _ _ _ (read_word _ _ _ _ _ c.before.before.before.before.before.before.before.word_in.ensures c.before.before.before.before.before.k.given.1).is c.before.before.before.items-from.ensures c.before.e2.given.1)
 
 returns-3 : tie.Need-returns-3
-returns-3 c = sym (item-counted _ _ _ _ _ _ (readWord _ _ _ _ _ c.before.before.before.before.before.before.before.word_in.ensures c.before.before.before.before.before.k.given.1).is c.before.before.before.items-from.ensures c.before.p.given.1)
+returns-3 c = sym (item_counted _ _ _ _ _ _ (read_word _ _ _ _ _ c.before.before.before.before.before.before.before.word_in.ensures c.before.before.before.before.before.k.given.1).is c.before.before.before.items-from.ensures c.before.p.given.1)
 
 pub section-of-spec : {M : Type 1} → statement M
 section-of-spec =

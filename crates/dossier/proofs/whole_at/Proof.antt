@@ -2,7 +2,7 @@
 use mathlib.Core.Path.{sym}
 use native.Mathlib.Omega.{arith}
 use borrow.Author.Rules.{rules}
-use Rattle.dossier.proofs.Operand.{op-atom}
+use Rattle.dossier.proofs.Operand.{op_atom}
 use Rattle.dossier.proofs.whole_at.Statement.{statement}
 use Rattle.dossier.proofs.whole_at.Tie as tie
 
@@ -19,7 +19,7 @@ add-t12 : tie.Need-overflow-add-t12
 add-t12 c = search rules
 
 returns : tie.Need-returns
-returns c = sym (op-atom _ _ _ _ _ _ (λ z. omega arith) c.before.before.if1.true c.if2.true)
+returns c = sym (op_atom _ _ _ _ _ _ (λ z. omega arith) c.before.before.if1.true c.if2.true)
 
 operand-at-requires : tie.Need-operand-at-requires
 operand-at-requires c κs = search rules

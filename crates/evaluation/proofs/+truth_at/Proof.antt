@@ -3,7 +3,7 @@ use lib.ListN.{length}
 use Prim.Native.Nat.{◌-◌}
 use mathlib.Core.Path.{subst}
 use Rattle.promise.specs.Formula.{FormulaFits}
-use Rattle.promise.proofs.Formula.{deep, fits-here, fits-atom, fits_one, fits-two, read-atom, read-true, read-not, read-joined}
+use Rattle.promise.proofs.Formula.{deep, fits_here, fits_atom, fits_one, fits_two, read_atom, read_true, read_not, read_joined}
 use Rattle.evaluation.specs.Table.{in_table}
 use Prim.Native.Nat.{ℕ, ◌<◌}
 use mathlib.Core.Path.{sym, ◌∙◌}
@@ -36,13 +36,13 @@ word-requires : (t : ℕ) → lts.Need-word-requires (calls t) (at t) f.Post
 word-requires t c κs =
     let start = c.before.before in
     let a = start.args in
-    fits-here (length a.table.now) a.deep a.s.now a.at start.requires.1
+    fits_here (length a.table.now) a.deep a.s.now a.at start.requires.1
 
 add-p : (t : ℕ) → lts.Need-overflow-add-p (calls t) (at t) f.Post
 add-p t c =
     let start = c.before.before.before in
     let a = start.args in
-    omega (arith, fits-here (length a.table.now) a.deep a.s.now a.at start.requires.1)
+    omega (arith, fits_here (length a.table.now) a.deep a.s.now a.at start.requires.1)
 
 sub-less : (t : ℕ) → lts.Need-overflow-sub-less (calls t) (at t) f.Post
 sub-less t c =
@@ -54,14 +54,14 @@ is-there-requires : (t : ℕ) → lts.Need-is-there-requires (calls t) (at t) f.
 is-there-requires t c κs =
     let start = c.before.before.before.before in
     let a = start.args in
-    fits-atom (length a.table.now) a.deep a.s.now a.at start.requires.1 c.before.word.ensures.0 c.if1.true
+    fits_atom (length a.table.now) a.deep a.s.now a.at start.requires.1 c.before.word.ensures.0 c.if1.true
 
 returns : (t : ℕ) → lts.Need-returns (calls t) (at t) f.Post
 unfolding in_table
 returns t c =
     let start = c.before.before.before.before.before in
     let a = start.args in
-    let r = read-atom (length a.table.now) a.deep a.s.now a.at start.requires.1 c.before.before.word.ensures.0 (in_table a.table.now) c.before.if1.true in
+    let r = read_atom (length a.table.now) a.deep a.s.now a.at start.requires.1 c.before.before.word.ensures.0 (in_table a.table.now) c.before.if1.true in
     (c.is-there.ensures ∙ r.0, r.1)
 
 returns-2 : (t : ℕ) → lts.Need-returns-2 (calls t) (at t) f.Post
@@ -69,7 +69,7 @@ unfolding in_table
 returns-2 t c =
     let start = c.before.before.before.before.before in
     let a = start.args in
-    read-true (length a.table.now) a.deep a.s.now a.at start.requires.1 c.before.before.word.ensures.0 (in_table a.table.now) c.if2.true
+    read_true (length a.table.now) a.deep a.s.now a.at start.requires.1 c.before.before.word.ensures.0 (in_table a.table.now) c.if2.true
 
 truth-at-requires : (t : ℕ) → lts.Need-truth-at-requires (calls t) (at t) f.Post
 truth-at-requires t c κs =
@@ -82,14 +82,14 @@ unfolding in_table
 returns-3 t c =
     let start = c.before.before.before.before.before.before.before in
     let a = start.args in
-    read-not (length a.table.now) a.deep a.s.now a.at start.requires.1 c.before.before.before.before.word.ensures.0 (in_table a.table.now) c.before.truth-at.ensures.0 c.before.truth-at.ensures.1 c.if3.true
+    read_not (length a.table.now) a.deep a.s.now a.at start.requires.1 c.before.before.before.before.word.ensures.0 (in_table a.table.now) c.before.truth-at.ensures.0 c.before.truth-at.ensures.1 c.if3.true
 
 truth-at-requires-2 : (t : ℕ) → lts.Need-truth-at-requires-2 (calls t) (at t) f.Post
 truth-at-requires-2 t c κs =
     let start = c.before.before.before.before.before.before.before in
     let a = start.args in
     let x : 257 < c.before.before.before.before.word.result = omega arith in
-    (omega (arith, start.requires.0, deep (length a.table.now) a.deep a.s.now a.at start.requires.1), subst (λ (q : ℕ). FormulaFits (length a.table.now) (a.deep - 1) a.s.now q) (sym c.before.truth-at.ensures.1) (fits-two (length a.table.now) a.deep a.s.now a.at start.requires.1 c.before.before.before.before.word.ensures.0 x))
+    (omega (arith, start.requires.0, deep (length a.table.now) a.deep a.s.now a.at start.requires.1), subst (λ (q : ℕ). FormulaFits (length a.table.now) (a.deep - 1) a.s.now q) (sym c.before.truth-at.ensures.1) (fits_two (length a.table.now) a.deep a.s.now a.at start.requires.1 c.before.before.before.before.word.ensures.0 x))
 
 joined-requires : (t : ℕ) → lts.Need-joined-requires (calls t) (at t) f.Post
 joined-requires t c κs = search rules
@@ -100,7 +100,7 @@ returns-4 t c =
     let start = c.before.before.before.before.before.before.before.before.before in
     let a = start.args in
     let x : 257 < c.before.before.before.before.before.before.word.result = omega arith in
-    let r = read-joined (length a.table.now) a.deep a.s.now a.at start.requires.1 c.before.before.before.before.before.before.word.ensures.0 (in_table a.table.now) c.before.before.before.truth-at.ensures.0 c.before.before.before.truth-at.ensures.1 c.before.truth-at2.ensures.0 c.before.truth-at2.ensures.1 x in
+    let r = read_joined (length a.table.now) a.deep a.s.now a.at start.requires.1 c.before.before.before.before.before.before.word.ensures.0 (in_table a.table.now) c.before.before.before.truth-at.ensures.0 c.before.before.before.truth-at.ensures.1 c.before.truth-at2.ensures.0 c.before.truth-at2.ensures.1 x in
     (c.joined.ensures ∙ r.0, r.1)
 
 pub +truth-at-spec : {M : Type 1} → statement M

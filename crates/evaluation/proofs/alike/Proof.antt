@@ -6,13 +6,13 @@ use borrow.Author.Tests.{eq-eqb, ne_eqb}
 use Rattle.meaning.specs.Tests.{◌is◌, same}
 use Rattle.promise.specs.Formula.{entry_of}
 use Rattle.promise.specs.declared.EntryAt.{EntryAt}
-use Rattle.promise.proofs.Step.{no-and, yes_and}
+use Rattle.promise.proofs.Step.{no_and, yes_and}
 use Rattle.evaluation.proofs.alike.Statement.{statement}
 use Rattle.evaluation.proofs.alike.Tie as tie
 
 returns : tie.Need-returns
 unfolding ◌is◌
-returns c = sym (no-and _ (ap not (eq-eqb _ _ c.if1.true)))
+returns c = sym (no_and _ (ap not (eq-eqb _ _ c.if1.true)))
 
 entry-at-requires : tie.Need-entry-at-requires
 entry-at-requires c κs = c.before.before.requires.0 c.if1.false

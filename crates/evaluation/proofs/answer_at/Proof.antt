@@ -1,7 +1,7 @@
 -- `evaluation::answer_at` meets its contract.
 use mathlib.Core.Path.{◌∙◌}
 use borrow.Author.Rules.{rules}
-use Rattle.evaluation.proofs.Entry.{sources, table-size, table_fits, answer-is}
+use Rattle.evaluation.proofs.Entry.{sources, table_size, table_fits, answer_is}
 use Rattle.evaluation.proofs.answer_at.Statement.{statement}
 use Rattle.evaluation.proofs.answer_at.Tie as tie
 
@@ -15,13 +15,13 @@ array-share-prefix-table : tie.Need-array-share-prefix-table
 array-share-prefix-table c = search rules
 
 slice-aggregate-answer-in : tie.Need-slice-aggregate-answer-in
-slice-aggregate-answer-in c = table-size c.before.before.before.before.before.before.requires.0 c.before.before.before.before.before.before.requires.1 c.before.before.entry_at.ensures c.before.first-rounds.ensures
+slice-aggregate-answer-in c = table_size c.before.before.before.before.before.before.requires.0 c.before.before.before.before.before.before.requires.1 c.before.before.entry_at.ensures c.before.first-rounds.ensures
 
 answer-in-requires : tie.Need-answer-in-requires
 answer-in-requires c κs = (c.before.before.before.before.before.before.requires.1.ends, table_fits c.before.before.before.before.before.before.requires.0 c.before.before.before.before.before.before.requires.1 c.before.before.entry_at.ensures c.before.first-rounds.ensures)
 
 returns : tie.Need-returns
-returns c = c.answer-in.ensures ∙ answer-is c.before.before.before.before.before.before.before.requires.0 c.before.before.before.before.before.before.before.requires.1 c.before.before.before.entry_at.ensures c.before.before.first-rounds.ensures
+returns c = c.answer-in.ensures ∙ answer_is c.before.before.before.before.before.before.before.requires.0 c.before.before.before.before.before.before.before.requires.1 c.before.before.before.entry_at.ensures c.before.before.first-rounds.ensures
 
 pub answer-at-spec : {M : Type 1} → statement M
 answer-at-spec =

@@ -2,11 +2,11 @@
 use Prim.Native.Nat.{ℕ, ◌+◌, ◌≤◌, ◌<◌}
 use Rattle.evaluation.specs.Table.{before}
 use Rattle.meaning.specs.Tests.{◌∈◌, all}
-use Rattle.promise.proofs.Place.{part_none, part-cons, part-first, part-later}
-use Rattle.promise.proofs.Step.{all_none, all-on, all-not}
+use Rattle.promise.proofs.Place.{part_none, part_cons, part_first, part_later}
+use Rattle.promise.proofs.Step.{all_none, all_on, all_not}
 use Rattle.promise.specs.Place.{part}
 use borrow.Author.Rules.{rules}
-use borrow.Author.Tests.{not-true, not-false}
+use borrow.Author.Tests.{not_true, not-false}
 use lib.ListN.{length}
 use mathlib.Core.Path.{◌≡◌, refl, sym, ap, ◌∙◌}
 use Rattle.evaluation.proofs.body_holds.Statement.{statement}
@@ -29,12 +29,12 @@ word-requires c κs = search rules
 was-there-requires : tie.Need-was-there-requires invariant-loop decreases-loop
 was-there-requires c κs =
     let turn = c.before.before.loop in
-    rw c.word.ensures.0 (turn.invariant.1 _ (part-first _ _ _ c.before.loop-test.true turn.invariant.0))
+    rw c.word.ensures.0 (turn.invariant.1 _ (part_first _ _ _ c.before.loop-test.true turn.invariant.0))
 
 returns : tie.Need-returns invariant-loop decreases-loop
 returns c =
     let turn = c.before.before.before.before.loop in
-    sym (turn.invariant.2 ∙ all-not _ (part-cons _ _ _ c.before.before.before.loop-test.true turn.invariant.0) (ap (before c.before.before.before.before.before.before.before.args.round c.before.before.before.before.before.before.before.args.table.now) (sym c.before.before.word.ensures.0) ∙ sym c.before.was-there.ensures ∙ not-true _ c.if1.true))
+    sym (turn.invariant.2 ∙ all_not _ (part_cons _ _ _ c.before.before.before.loop-test.true turn.invariant.0) (ap (before c.before.before.before.before.before.before.before.args.round c.before.before.before.before.before.before.before.args.table.now) (sym c.before.before.word.ensures.0) ∙ sym c.before.was-there.ensures ∙ not_true _ c.if1.true))
 
 add_at : tie.Need-overflow-add-at invariant-loop decreases-loop
 add_at c = search rules
@@ -49,7 +49,7 @@ loop-again : tie.Need-loop-preserved invariant-loop decreases-loop
 loop-again c =
     let l = c.before.before.before.before.loop in
     let h = c.before.before.before.loop-test.true in
-    (search rules, (λ x m. l.invariant.1 x (part-later _ _ _ h l.invariant.0 m)), l.invariant.2 ∙ all-on _ (part-cons _ _ _ h l.invariant.0) (ap (before c.before.before.before.before.before.before.before.args.round c.before.before.before.before.before.before.before.args.table.now) (sym c.before.before.word.ensures.0) ∙ sym c.before.was-there.ensures ∙ not-false _ c.if1.false))
+    (search rules, (λ x m. l.invariant.1 x (part_later _ _ _ h l.invariant.0 m)), l.invariant.2 ∙ all_on _ (part_cons _ _ _ h l.invariant.0) (ap (before c.before.before.before.before.before.before.before.args.round c.before.before.before.before.before.before.before.args.table.now) (sym c.before.before.word.ensures.0) ∙ sym c.before.was-there.ensures ∙ not-false _ c.if1.false))
 
 returns-2 : tie.Need-returns-2 invariant-loop decreases-loop
 returns-2 c = sym (c.before.loop.invariant.2 ∙ all_none _ (part_none _ _ _ c.loop-test.false))

@@ -1,7 +1,7 @@
 -- `evaluation::fire_clauses` meets its contract. The invariant: firing what is left on the table so far is firing all.
 use borrow.Author.Rules.{rules}
 use lib.ListN.{length}
-use Rattle.evaluation.proofs.Firing.{firing, Left, left-all, left-first, left-on, left-none}
+use Rattle.evaluation.proofs.Firing.{firing, Left, left_all, left_first, left_on, left_none}
 use Rattle.promise.specs.Clause.{credential}
 use Rattle.evaluation.proofs.fire_clauses.Statement.{statement}
 use Rattle.evaluation.proofs.fire_clauses.Tie as tie
@@ -13,12 +13,12 @@ abbrev decreases-loop : tie.decreases-loop
 decreases-loop s p k round table₀ at₀ left₀ table at left = left
 
 loop-holds : tie.Need-loop-init invariant-loop decreases-loop
-loop-holds c = left-all _ _ _ _ _ _ c.before.before.requires
+loop-holds c = left_all _ _ _ _ _ _ c.before.before.requires
 
 fire-at-requires : tie.Need-fire-at-requires invariant-loop decreases-loop
 fire-at-requires c κs =
     let turn = c.before.before.loop in
-    rw turn.invariant.size (left-first _ _ _ _ _ _ turn.invariant c.before.loop-test.true)
+    rw turn.invariant.size (left_first _ _ _ _ _ _ turn.invariant c.before.loop-test.true)
 
 sub-left : tie.Need-overflow-sub-left invariant-loop decreases-loop
 sub-left c = search rules
@@ -27,13 +27,13 @@ loop-less : tie.Need-loop-smaller invariant-loop decreases-loop
 loop-less c = search rules
 
 loop-again : tie.Need-loop-preserved invariant-loop decreases-loop
-loop-again c = left-on _ _ _ _ _ _ c.before.before.before.before.before.loop.invariant c.before.before.before.before.loop-test.true c.before.before.fire-at.ensures.0 c.before.before.fire-at.ensures.1
+loop-again c = left_on _ _ _ _ _ _ c.before.before.before.before.before.loop.invariant c.before.before.before.before.loop-test.true c.before.before.fire-at.ensures.0 c.before.before.fire-at.ensures.1
 
 same_length : tie.Need-same-length invariant-loop decreases-loop
 same_length c = c.before.loop.invariant.size
 
 returns : tie.Need-returns invariant-loop decreases-loop
-returns c = left-none _ _ _ _ _ _ c.before.loop.invariant c.loop-test.false
+returns c = left_none _ _ _ _ _ _ c.before.loop.invariant c.loop-test.false
 
 pub fire-clauses-spec : {M : Type 1} → statement M
 fire-clauses-spec =

@@ -2,8 +2,8 @@
 use Prim.Native.Nat.{ℕ}
 use lib.ListN.{get_or}
 use mathlib.Core.Path.{ap, ◌∙◌}
-use Rattle.evaluation.specs.Table.{fireOne}
-use Rattle.promise.specs.Clause.{clauseAt, clauseOf}
+use Rattle.evaluation.specs.Table.{fire_one}
+use Rattle.promise.specs.Clause.{clause_at, clause_of}
 use borrow.Author.Rules.{rules}
 use Rattle.evaluation.proofs.fire_named.Statement.{statement}
 use Rattle.evaluation.proofs.fire_named.Tie as tie
@@ -28,7 +28,7 @@ same_length c = search rules
 returns : tie.Need-returns
 returns c =
     let a = c.before.before.before.before.before.before.before.before.before.args in
-    c.before.before.fire-at.ensures.1 ∙ ap (λ (i : ℕ). fireOne a.round (clauseOf a.d.now (clauseAt a.d.now (get_or a.creds.now i 0))) a.table.now) c.before.before.before.before.before.word.ensures.0
+    c.before.before.fire-at.ensures.1 ∙ ap (λ (i : ℕ). fire_one a.round (clause_of a.d.now (clause_at a.d.now (get_or a.creds.now i 0))) a.table.now) c.before.before.before.before.before.word.ensures.0
 
 pub fire-named-spec : {M : Type 1} → statement M
 fire-named-spec =

@@ -3,7 +3,7 @@ use mathlib.Core.Path.{ap, ◌∙◌}
 use borrow.Author.Rules.{rules}
 use Rattle.promise.specs.declared.EntryAt.{EntryAt}
 use Rattle.evaluation.specs.Held.{table_of, Held}
-use Rattle.evaluation.proofs.Entry.{sources, held-alike}
+use Rattle.evaluation.proofs.Entry.{sources, held_alike}
 use Rattle.evaluation.proofs.known.Statement.{statement}
 use Rattle.evaluation.proofs.known.Tie as tie
 
@@ -18,7 +18,7 @@ returns : tie.Need-returns
 returns c =
     let start = c.before.before.before.before.before.before in
     let a = start.args in
-    held-alike a.d.now a.o a.w.now a.which _ _ _ start.requires.1 c.before.before.entry_at.ensures c.before.alike.ensures c.if1.true
+    held_alike a.d.now a.o a.w.now a.which _ _ _ start.requires.1 c.before.before.entry_at.ensures c.before.alike.ensures c.if1.true
 
 first-rounds-requires : tie.Need-first-rounds-requires
 first-rounds-requires c κs = sources c.before.before.before.before.before.before.requires.0 c.before.before.before.before.before.before.requires.2 c.before.before.entry_at.ensures

@@ -2,7 +2,7 @@
 use mathlib.Core.Path.{refl, ◌∙◌}
 use native.Mathlib.Omega.{arith}
 use borrow.Author.Rules.{rules}
-use Rattle.evaluation.proofs.Entry.{table-size, table_fits, answer-is}
+use Rattle.evaluation.proofs.Entry.{table_size, table_fits, answer_is}
 use Rattle.evaluation.proofs.own_answers.Statement.{statement}
 use Rattle.evaluation.proofs.own_answers.Tie as tie
 
@@ -19,7 +19,7 @@ array-share-prefix-t : tie.Need-array-share-prefix-t
 array-share-prefix-t c = search rules
 
 slice-aggregate-answer-in : tie.Need-slice-aggregate-answer-in
-slice-aggregate-answer-in c = table-size c.before.before.before.before.before.before.before.before.before.before.before.before.requires.0 c.before.before.before.before.before.before.before.before.before.before.before.before.requires.0.laid.secret refl c.before.known.ensures
+slice-aggregate-answer-in c = table_size c.before.before.before.before.before.before.before.before.before.before.before.before.requires.0 c.before.before.before.before.before.before.before.before.before.before.before.before.requires.0.laid.secret refl c.before.known.ensures
 
 answer-in-requires : tie.Need-answer-in-requires
 answer-in-requires c κs = (c.before.before.before.before.before.before.before.before.before.before.before.before.requires.0.laid.secret.ends, table_fits c.before.before.before.before.before.before.before.before.before.before.before.before.requires.0 c.before.before.before.before.before.before.before.before.before.before.before.before.requires.0.laid.secret refl c.before.known.ensures)
@@ -28,7 +28,7 @@ same_length : tie.Need-same-length
 same_length c = search rules
 
 returns : tie.Need-returns
-returns c = (c.before.before.before.before.before.before.answer-probes.ensures.0, c.answer-in.ensures ∙ answer-is c.before.before.before.before.before.before.before.before.before.before.before.before.before.requires.0 c.before.before.before.before.before.before.before.before.before.before.before.before.before.requires.0.laid.secret refl c.before.before.known.ensures)
+returns c = (c.before.before.before.before.before.before.answer-probes.ensures.0, c.answer-in.ensures ∙ answer_is c.before.before.before.before.before.before.before.before.before.before.before.before.before.requires.0 c.before.before.before.before.before.before.before.before.before.before.before.before.before.requires.0.laid.secret refl c.before.before.known.ensures)
 
 pub own-answers-spec : {M : Type 1} → statement M
 own-answers-spec =

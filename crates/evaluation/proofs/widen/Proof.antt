@@ -5,7 +5,7 @@ use native.Mathlib.Omega.{arith}
 use borrow.Author.Rules.{rules}
 use lib.ListN.{length, get_or}
 use Rattle.promise.specs.Place.{filled}
-use Rattle.promise.proofs.Place.{filled_none, filled_on, filled-length}
+use Rattle.promise.proofs.Place.{filled_none, filled_on, filled_length}
 use Rattle.evaluation.proofs.Entry.{widened}
 use Rattle.evaluation.proofs.widen.Statement.{statement}
 use Rattle.evaluation.proofs.widen.Tie as tie
@@ -29,7 +29,7 @@ mul-dst : tie.Need-overflow-mul-dst invariant-loop decreases-loop
 mul-dst c = search rules
 
 slice-write-dst : tie.Need-slice-write-dst invariant-loop decreases-loop
-slice-write-dst c = omega (arith, c.before.before.before.requires, c.before.loop-test.true, ap length c.before.before.loop.invariant.1 ∙ filled-length _ _ _ (omega (arith, c.before.before.before.requires, c.before.before.loop.invariant.0)))
+slice-write-dst c = omega (arith, c.before.before.before.requires, c.before.loop-test.true, ap length c.before.before.loop.invariant.1 ∙ filled_length _ _ _ (omega (arith, c.before.before.before.requires, c.before.before.loop.invariant.0)))
 
 add-i : tie.Need-overflow-add-i invariant-loop decreases-loop
 add-i c = search rules
@@ -41,7 +41,7 @@ loop-again : tie.Need-loop-preserved invariant-loop decreases-loop
 loop-again c = (search rules, filled_on _ _ _ c.before.before.loop.invariant.1 refl (omega (arith, c.before.before.before.requires, c.before.loop-test.true)))
 
 same_length : tie.Need-same-length invariant-loop decreases-loop
-same_length c = ap length c.before.loop.invariant.1 ∙ filled-length _ _ _ (omega (arith, c.before.before.requires, c.before.loop.invariant.0))
+same_length c = ap length c.before.loop.invariant.1 ∙ filled_length _ _ _ (omega (arith, c.before.before.requires, c.before.loop.invariant.0))
 
 returns : tie.Need-returns invariant-loop decreases-loop
 returns c =

@@ -2,7 +2,7 @@
 use native.Mathlib.Omega.{arith}
 use mathlib.Core.Path.{sym}
 use lib.Seq.{length-take-le}
-use Rattle.printed.proofs.Read.{printed-count}
+use Rattle.printed.proofs.Read.{printed_count}
 use borrow.Author.Rules.{rules}
 use Rattle.judge.proofs.main.Statement.{statement}
 use Rattle.judge.proofs.main.Tie as tie
@@ -38,10 +38,10 @@ stdin-line-requires : tie.Need-stdin-line-requires
 stdin-line-requires c κs = search rules
 
 array-share-prefix-out : tie.Need-array-share-prefix-out
-array-share-prefix-out c = let e = printed-count _ c.before.before.stdin-line.ensures.1 in omega (arith, e, c.before.before.stdin-line.auto.1.1.0)
+array-share-prefix-out c = let e = printed_count _ c.before.before.stdin-line.ensures.1 in omega (arith, e, c.before.before.stdin-line.auto.1.1.0)
 
 slice-aggregate-write-all : tie.Need-slice-aggregate-write-all
-slice-aggregate-write-all c = let e = printed-count _ c.before.before.before.stdin-line.ensures.1 in sym (length-take-le c.before.before.before.stdin-line.result c.before.before.before.stdin-line.new.1.1.0 (omega (arith, e, c.before.before.before.stdin-line.auto.1.1.0)))
+slice-aggregate-write-all c = let e = printed_count _ c.before.before.before.stdin-line.ensures.1 in sym (length-take-le c.before.before.before.stdin-line.result c.before.before.before.stdin-line.new.1.1.0 (omega (arith, e, c.before.before.before.stdin-line.auto.1.1.0)))
 
 write-all-requires : tie.Need-write-all-requires
 write-all-requires c κs = search rules

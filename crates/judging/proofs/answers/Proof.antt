@@ -1,7 +1,7 @@
 -- `judging::answers` meets its contract: the dossier is refused, or read.
-use Rattle.judging.proofs.Judged.{answers-refused}
+use Rattle.judging.proofs.Judged.{answers_refused}
 use Rattle.judging.proofs.Table.{kept_row}
-use Rattle.judging.proofs.Sound.{dossier-sound, dossier-refused}
+use Rattle.judging.proofs.Sound.{dossier_sound_lem, dossier_refused}
 use borrow.Author.Rules.{rules}
 use Rattle.judging.proofs.answers.Statement.{statement}
 use Rattle.judging.proofs.answers.Tie as tie
@@ -21,13 +21,13 @@ enum-known-o c = search rules
 answers-with-requires : tie.Need-answers-with-requires
 answers-with-requires c κs =
     let a = c.before.before.before.before.before.before.before.args in
-    dossier-sound a.dossier.now c.before.before.before.before.dossier.ensures c.before.before.o.given.1
+    dossier_sound_lem a.dossier.now c.before.before.before.before.dossier.ensures c.before.before.o.given.1
 
 returns : tie.Need-returns
 returns c =
     let a = c.before.before.before.before.before.before.before.args in
     λ w. kept_row a.dossier.now a.table.now w
-    (answers-refused a.dossier.now a.table.now (dossier-refused a.dossier.now c.before.before.before.before.dossier.ensures c.before.before.e.given.1) c.refused.ensures)
+    (answers_refused a.dossier.now a.table.now (dossier_refused a.dossier.now c.before.before.before.before.dossier.ensures c.before.before.e.given.1) c.refused.ensures)
 
 same_length : tie.Need-same-length
 same_length c = search rules

@@ -1,8 +1,8 @@
 -- `judging::judge_papers` meets its contract: 18, or the judgement.
 use native.Mathlib.Omega.{arith}
 use borrow.Author.Rules.{rules}
-use Rattle.judging.proofs.Judged.{judge-short, judge-meant}
-use Rattle.judging.proofs.Sound.{sound-laid, offered-there}
+use Rattle.judging.proofs.Judged.{judge_short, judge_meant}
+use Rattle.judging.proofs.Sound.{sound_laid, offered_there}
 use Rattle.judging.proofs.judge_papers.Statement.{statement}
 use Rattle.judging.proofs.judge_papers.Tie as tie
 
@@ -13,13 +13,13 @@ returns : tie.Need-returns
 returns c =
     let start = c.before.before.before.before.before.before in
     let a = start.args in
-    judge-short a.d.now a.c.now a.rounds.now a.o start.requires.0 a.x start.requires.1 c.before.if1.true c.refused.ensures
+    judge_short a.d.now a.c.now a.rounds.now a.o start.requires.0 a.x start.requires.1 c.before.if1.true c.refused.ensures
 
 judge-sound-requires : tie.Need-judge-sound-requires
 judge-sound-requires c κs =
     let start = c.before.before.before.before.before.before in
     let a = start.args in
-    (sound-laid a.d.now a.o start.requires.0, offered-there a.o.atoms a.o.ncreds a.c.now a.x start.requires.1, omega (arith, c.before.if1.false))
+    (sound_laid a.d.now a.o start.requires.0, offered_there a.o.atoms a.o.ncreds a.c.now a.x start.requires.1, omega (arith, c.before.if1.false))
 
 same_length : tie.Need-same-length
 same_length c = search rules
@@ -28,7 +28,7 @@ returns-2 : tie.Need-returns-2
 returns-2 c =
     let start = c.before.before.before.before.before.before.before.before.before in
     let a = start.args in
-    judge-meant a.d.now a.c.now a.rounds.now a.o start.requires.0 a.x start.requires.1 (omega (arith, c.before.before.before.before.if1.false)) c.before.before.judge-sound.ensures
+    judge_meant a.d.now a.c.now a.rounds.now a.o start.requires.0 a.x start.requires.1 (omega (arith, c.before.before.before.before.if1.false)) c.before.before.judge-sound.ensures
 
 pub judge-papers-spec : {M : Type 1} → statement M
 judge-papers-spec =

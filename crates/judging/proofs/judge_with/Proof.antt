@@ -1,6 +1,6 @@
 -- `judging::judge_with` meets its contract: the certificate is refused, or offers what is then judged.
-use Rattle.judging.proofs.Judged.{judge-unsound}
-use Rattle.judging.proofs.Sound.{certificate-sound, certificate-refused}
+use Rattle.judging.proofs.Judged.{judge_unsound}
+use Rattle.judging.proofs.Sound.{certificate_sound_lem, certificate_refused}
 use borrow.Author.Rules.{rules}
 use Rattle.judging.proofs.judge_with.Statement.{statement}
 use Rattle.judging.proofs.judge_with.Tie as tie
@@ -21,13 +21,13 @@ judge-papers-requires : tie.Need-judge-papers-requires
 judge-papers-requires c κs =
     let start = c.before.before.before.before.before.before.before.before in
     let a = start.args in
-    (start.requires, certificate-sound a.o.atoms a.o.ncreds a.c.now c.before.before.before.before.certificate.ensures c.before.before.x.given.1)
+    (start.requires, certificate_sound_lem a.o.atoms a.o.ncreds a.c.now c.before.before.before.before.certificate.ensures c.before.before.x.given.1)
 
 returns : tie.Need-returns
 returns c =
     let start = c.before.before.before.before.before.before.before.before in
     let a = start.args in
-    judge-unsound a.d.now a.c.now a.rounds.now a.o start.requires (certificate-refused a.o.atoms a.o.ncreds a.c.now c.before.before.before.before.certificate.ensures c.before.before.e.given.1) c.refused.ensures
+    judge_unsound a.d.now a.c.now a.rounds.now a.o start.requires (certificate_refused a.o.atoms a.o.ncreds a.c.now c.before.before.before.before.certificate.ensures c.before.before.e.given.1) c.refused.ensures
 
 same_length : tie.Need-same-length
 same_length c = search rules

@@ -5,9 +5,9 @@ use native.Mathlib.Omega.{arith}
 use borrow.Author.Rules.{rules}
 use lib.ListN.{length}
 use Rattle.meaning.specs.Tests.{mem}
-use Rattle.promise.proofs.Place.{part-cons, part_none}
+use Rattle.promise.proofs.Place.{part_cons, part_none}
 use Rattle.promise.specs.Place.{part}
-use Rattle.promise.proofs.Step.{any_none, any-on, any-yes, is-not, is-of}
+use Rattle.promise.proofs.Step.{any_none, any_on, any_yes, is_not, is_of}
 use Rattle.lines.proofs.among.Statement.{statement}
 use Rattle.lines.proofs.among.Tie as tie
 
@@ -25,7 +25,7 @@ word-requires c κs = search rules
 
 returns : tie.Need-returns invariant-loop decreases-loop
 unfolding mem
-returns c = sym (c.before.before.before.loop.invariant.1 ∙ any-yes _ (part-cons _ _ _ c.before.before.loop-test.true c.before.before.before.loop.invariant.0) (is-of (sym c.if1.true ∙ c.before.word.ensures.0)))
+returns c = sym (c.before.before.before.loop.invariant.1 ∙ any_yes _ (part_cons _ _ _ c.before.before.loop-test.true c.before.before.before.loop.invariant.0) (is_of (sym c.if1.true ∙ c.before.word.ensures.0)))
 
 add_a : tie.Need-overflow-add-a invariant-loop decreases-loop
 add_a c = search rules
@@ -38,7 +38,7 @@ loop-less c = search rules
 
 loop-again : tie.Need-loop-preserved invariant-loop decreases-loop
 unfolding mem
-loop-again c = (omega arith, c.before.before.before.loop.invariant.1 ∙ any-on _ (part-cons _ _ _ c.before.before.loop-test.true c.before.before.before.loop.invariant.0) (is-not (λ e. c.if1.false (c.before.word.ensures.0 ∙ sym e))))
+loop-again c = (omega arith, c.before.before.before.loop.invariant.1 ∙ any_on _ (part_cons _ _ _ c.before.before.loop-test.true c.before.before.before.loop.invariant.0) (is_not (λ e. c.if1.false (c.before.word.ensures.0 ∙ sym e))))
 
 returns-2 : tie.Need-returns-2 invariant-loop decreases-loop
 unfolding mem

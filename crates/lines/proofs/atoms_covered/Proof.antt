@@ -5,16 +5,16 @@ use native.Mathlib.Omega.{arith}
 use borrow.Author.Rules.{rules}
 use lib.ListN.{length}
 use Rattle.meaning.specs.Tests.{all}
-use Rattle.promise.proofs.Place.{part-cons, part_none}
-use Rattle.promise.specs.Line.{literalsOf, said_of}
+use Rattle.promise.proofs.Place.{part_cons, part_none}
+use Rattle.promise.specs.Line.{literals_of, said_of}
 use Rattle.promise.specs.Place.{part}
-use Rattle.lines.specs.Asks.{coveredAtom}
-use Rattle.promise.proofs.Step.{all_none, all-not, all-on}
+use Rattle.lines.specs.Asks.{covered_atom}
+use Rattle.promise.proofs.Step.{all_none, all_not, all_on}
 use Rattle.lines.proofs.atoms_covered.Statement.{statement}
 use Rattle.lines.proofs.atoms_covered.Tie as tie
 
 abbrev invariant-loop : tie.invariant-loop
-invariant-loop t q n s v l own at₀ left₀ at left = (at + left ≤ length t) × (all (coveredAtom own (literalsOf s v) (said_of s l)) (part t q n) ≡ all (coveredAtom own (literalsOf s v) (said_of s l)) (part t at left))
+invariant-loop t q n s v l own at₀ left₀ at left = (at + left ≤ length t) × (all (covered_atom own (literals_of s v) (said_of s l)) (part t q n) ≡ all (covered_atom own (literals_of s v) (said_of s l)) (part t at left))
 
 abbrev decreases-loop : tie.decreases-loop
 decreases-loop t q n s v l own at₀ left₀ at left = left
@@ -38,10 +38,10 @@ loop-less : tie.Need-loop-smaller invariant-loop decreases-loop
 loop-less c = search rules
 
 loop-again : tie.Need-loop-preserved invariant-loop decreases-loop
-loop-again c = (omega arith, c.before.before.before.before.loop.invariant.1 ∙ all-on _ (part-cons _ _ _ c.before.before.before.loop-test.true c.before.before.before.before.loop.invariant.0) (ap (coveredAtom _ _ _) (sym c.before.before.word.ensures.0) ∙ sym c.before.atom-covered.ensures ∙ c.if1.true))
+loop-again c = (omega arith, c.before.before.before.before.loop.invariant.1 ∙ all_on _ (part_cons _ _ _ c.before.before.before.loop-test.true c.before.before.before.before.loop.invariant.0) (ap (covered_atom _ _ _) (sym c.before.before.word.ensures.0) ∙ sym c.before.atom-covered.ensures ∙ c.if1.true))
 
 returns : tie.Need-returns invariant-loop decreases-loop
-returns c = sym (c.before.before.before.before.loop.invariant.1 ∙ all-not _ (part-cons _ _ _ c.before.before.before.loop-test.true c.before.before.before.before.loop.invariant.0) (ap (coveredAtom _ _ _) (sym c.before.before.word.ensures.0) ∙ sym c.before.atom-covered.ensures ∙ c.if1.false))
+returns c = sym (c.before.before.before.before.loop.invariant.1 ∙ all_not _ (part_cons _ _ _ c.before.before.before.loop-test.true c.before.before.before.before.loop.invariant.0) (ap (covered_atom _ _ _) (sym c.before.before.word.ensures.0) ∙ sym c.before.atom-covered.ensures ∙ c.if1.false))
 
 returns-2 : tie.Need-returns-2 invariant-loop decreases-loop
 returns-2 c = sym (c.before.loop.invariant.1 ∙ all_none _ (part_none _ _ _ c.loop-test.false))

@@ -3,9 +3,9 @@ use mathlib.Core.Path.{◌∙◌, sym}
 use borrow.Author.Rules.{rules}
 use Rattle.meaning.specs.Rules.{follows}
 use Rattle.meaning.specs.Tests.{◌and◌}
-use Rattle.lines.specs.Asks.{coveredAtom, coveredCred, cuts}
-use Rattle.lines.proofs.Names.{literal-held, literal-is, literal-no}
-use Rattle.promise.proofs.Step.{no-and, yes_and}
+use Rattle.lines.specs.Asks.{covered_atom, covered_cred, cuts}
+use Rattle.lines.proofs.Names.{literal_held, literal_is, literal_no}
+use Rattle.promise.proofs.Step.{no_and, yes_and}
 use Rattle.lines.proofs.cut_follows.Statement.{statement}
 use Rattle.lines.proofs.cut_follows.Tie as tie
 
@@ -20,7 +20,7 @@ enum_told c = search rules
 
 returns : tie.Need-returns
 unfolding follows
-returns c = λ e. sym (literal-no _ _ c.before.before.literal-nth.ensures c.enum_told.given.1 _)
+returns c = λ e. sym (literal_no _ _ c.before.before.literal-nth.ensures c.enum_told.given.1 _)
 
 literal-nth-requires-2 : tie.Need-literal-nth-requires-2
 literal-nth-requires-2 c κs = search rules
@@ -33,21 +33,21 @@ enum-told-2 c = search rules
 
 returns-2 : tie.Need-returns-2
 unfolding follows
-returns-2 c = λ e. sym (literal-is _ _ c.before.before.before.before.before.before.literal-nth.ensures c.before.before.before.before.l.given.1 _ ∙ literal-no _ _ c.before.before.literal-nth2.ensures c.enum-told2.given.1 _)
+returns-2 c = λ e. sym (literal_is _ _ c.before.before.before.before.before.before.literal-nth.ensures c.before.before.before.before.l.given.1 _ ∙ literal_no _ _ c.before.before.literal-nth2.ensures c.enum-told2.given.1 _)
 
 cut-holds-requires : tie.Need-cut-holds-requires
-cut-holds-requires c κs = (c.before.before.before.before.before.before.before.before.before.before.before.requires.2, literal-held _ _ c.before.before.before.before.before.before.before.literal-nth.ensures c.before.before.before.before.before.l.given.1, literal-held _ _ c.before.before.before.literal-nth2.ensures c.before.m.given.1)
+cut-holds-requires c κs = (c.before.before.before.before.before.before.before.before.before.before.before.requires.2, literal_held _ _ c.before.before.before.before.before.before.before.literal-nth.ensures c.before.before.before.before.before.l.given.1, literal_held _ _ c.before.before.before.literal-nth2.ensures c.before.m.given.1)
 
 credentials-covered-requires : tie.Need-credentials-covered-requires
-credentials-covered-requires c κs = (c.before.before.before.before.before.before.before.before.before.before.before.before.before.requires.0, c.before.before.before.before.before.before.before.before.before.before.before.before.before.requires.1, c.before.before.before.before.before.before.before.before.before.before.before.before.before.requires.2, literal-held _ _ c.before.before.before.before.before.before.before.before.before.literal-nth.ensures c.before.before.before.before.before.before.before.l.given.1, literal-held _ _ c.before.before.before.before.before.literal-nth2.ensures c.before.before.before.m.given.1)
+credentials-covered-requires c κs = (c.before.before.before.before.before.before.before.before.before.before.before.before.before.requires.0, c.before.before.before.before.before.before.before.before.before.before.before.before.before.requires.1, c.before.before.before.before.before.before.before.before.before.before.before.before.before.requires.2, literal_held _ _ c.before.before.before.before.before.before.before.before.before.literal-nth.ensures c.before.before.before.before.before.before.before.l.given.1, literal_held _ _ c.before.before.before.before.before.literal-nth2.ensures c.before.before.before.m.given.1)
 
 returns-3 : tie.Need-returns-3
-unfolding follows cuts coveredAtom coveredCred ◌and◌
-returns-3 c = λ e. c.credentials-covered.ensures ∙ sym (literal-is _ _ c.before.before.before.before.before.before.before.before.before.before.literal-nth.ensures c.before.before.before.before.before.before.before.before.l.given.1 _ ∙ literal-is _ _ c.before.before.before.before.before.before.literal-nth2.ensures c.before.before.before.before.m.given.1 _ ∙ yes_and _ (sym c.before.before.cut_Holds.ensures ∙ c.before.if1.true))
+unfolding follows cuts covered_atom covered_cred ◌and◌
+returns-3 c = λ e. c.credentials-covered.ensures ∙ sym (literal_is _ _ c.before.before.before.before.before.before.before.before.before.before.literal-nth.ensures c.before.before.before.before.before.before.before.before.l.given.1 _ ∙ literal_is _ _ c.before.before.before.before.before.before.literal-nth2.ensures c.before.before.before.before.m.given.1 _ ∙ yes_and _ (sym c.before.before.cut_Holds.ensures ∙ c.before.if1.true))
 
 returns-4 : tie.Need-returns-4
-unfolding follows cuts coveredAtom coveredCred ◌and◌
-returns-4 c = λ e. sym (literal-is _ _ c.before.before.before.before.before.before.before.before.before.literal-nth.ensures c.before.before.before.before.before.before.before.l.given.1 _ ∙ literal-is _ _ c.before.before.before.before.before.literal-nth2.ensures c.before.before.before.m.given.1 _ ∙ no-and _ (sym c.before.cut_Holds.ensures ∙ c.if1.false))
+unfolding follows cuts covered_atom covered_cred ◌and◌
+returns-4 c = λ e. sym (literal_is _ _ c.before.before.before.before.before.before.before.before.before.literal-nth.ensures c.before.before.before.before.before.before.before.l.given.1 _ ∙ literal_is _ _ c.before.before.before.before.before.literal-nth2.ensures c.before.before.before.m.given.1 _ ∙ no_and _ (sym c.before.cut_Holds.ensures ∙ c.if1.false))
 
 pub cut-follows-spec : {M : Type 1} → statement M
 cut-follows-spec =

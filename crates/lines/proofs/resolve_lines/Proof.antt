@@ -1,7 +1,7 @@
 -- `lines::resolve_lines` meets its contract.
 use mathlib.Core.Path.{◌∙◌, sym}
 use borrow.Author.Rules.{rules}
-use Rattle.lines.proofs.Names.{literal-held, literal-is, literal-no}
+use Rattle.lines.proofs.Names.{literal_held, literal_is, literal_no}
 use Rattle.lines.proofs.resolve_lines.Statement.{statement}
 use Rattle.lines.proofs.resolve_lines.Tie as tie
 
@@ -15,7 +15,7 @@ enum_told : tie.Need-enum-told
 enum_told c = search rules
 
 returns : tie.Need-returns
-returns c = sym (literal-no _ _ c.before.before.literal-nth.ensures c.enum_told.given.1 _)
+returns c = sym (literal_no _ _ c.before.before.literal-nth.ensures c.enum_told.given.1 _)
 
 literal-nth-requires-2 : tie.Need-literal-nth-requires-2
 literal-nth-requires-2 c κs = search rules
@@ -27,13 +27,13 @@ enum-told-2 : tie.Need-enum-told-2
 enum-told-2 c = search rules
 
 returns-2 : tie.Need-returns-2
-returns-2 c = sym (literal-is _ _ c.before.before.before.before.before.before.literal-nth.ensures c.before.before.before.before.p.given.1 _ ∙ literal-no _ _ c.before.before.literal-nth2.ensures c.enum-told2.given.1 _)
+returns-2 c = sym (literal_is _ _ c.before.before.before.before.before.before.literal-nth.ensures c.before.before.before.before.p.given.1 _ ∙ literal_no _ _ c.before.before.literal-nth2.ensures c.enum-told2.given.1 _)
 
 resolve-holds-requires : tie.Need-resolve-holds-requires
-resolve-holds-requires c κs = (c.before.before.before.before.before.before.before.before.before.requires.0, c.before.before.before.before.before.before.before.before.before.requires.1, literal-held _ _ c.before.before.before.before.before.before.before.literal-nth.ensures c.before.before.before.before.before.p.given.1, c.before.before.before.before.before.before.before.before.before.requires.2, literal-held _ _ c.before.before.before.literal-nth2.ensures c.before.q.given.1)
+resolve-holds-requires c κs = (c.before.before.before.before.before.before.before.before.before.requires.0, c.before.before.before.before.before.before.before.before.before.requires.1, literal_held _ _ c.before.before.before.before.before.before.before.literal-nth.ensures c.before.before.before.before.before.p.given.1, c.before.before.before.before.before.before.before.before.before.requires.2, literal_held _ _ c.before.before.before.literal-nth2.ensures c.before.q.given.1)
 
 returns-3 : tie.Need-returns-3
-returns-3 c = c.resolve-holds.ensures ∙ sym (literal-is _ _ c.before.before.before.before.before.before.before.before.literal-nth.ensures c.before.before.before.before.before.before.p.given.1 _ ∙ literal-is _ _ c.before.before.before.before.literal-nth2.ensures c.before.before.q.given.1 _)
+returns-3 c = c.resolve-holds.ensures ∙ sym (literal_is _ _ c.before.before.before.before.before.before.before.before.literal-nth.ensures c.before.before.before.before.before.before.p.given.1 _ ∙ literal_is _ _ c.before.before.before.before.literal-nth2.ensures c.before.before.q.given.1 _)
 
 pub resolve-lines-spec : {M : Type 1} → statement M
 resolve-lines-spec =

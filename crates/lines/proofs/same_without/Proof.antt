@@ -5,10 +5,10 @@ use native.Mathlib.Omega.{arith}
 use lib.ListN.{length}
 use Rattle.meaning.specs.Rules.{omit}
 use Rattle.meaning.specs.Tests.{same}
-use Rattle.promise.proofs.Place.{part-cons, part_none}
+use Rattle.promise.proofs.Place.{part_cons, part_none}
 use Rattle.promise.specs.Place.{part}
-use Rattle.promise.proofs.Step.{omit-none, same_end}
-use Rattle.lines.proofs.Turns.{taken-few, without_on, without_not}
+use Rattle.promise.proofs.Step.{omit_none, same_end}
+use Rattle.lines.proofs.Turns.{taken_few, without_on, without_not}
 use borrow.Author.Rules.{rules}
 use Rattle.lines.proofs.same_without.Statement.{statement}
 use Rattle.lines.proofs.same_without.Tie as tie
@@ -35,13 +35,13 @@ enum_told : tie.Need-enum-told invariant-loop decreases-loop
 enum_told c = search rules
 
 returns : tie.Need-returns invariant-loop decreases-loop
-returns c = sym (c.before.before.before.before.before.loop.invariant.2 ∙ without_not _ _ _ _ _ c.before.before.before.before.before.loop.invariant.0 (part-cons _ _ _ c.before.before.before.before.loop-test.true c.before.before.before.before.before.loop.invariant.1) (rw c.before.before.before.word.ensures.0 at c.before.before.take-up.ensures) c.enum_told.given.1)
+returns c = sym (c.before.before.before.before.before.loop.invariant.2 ∙ without_not _ _ _ _ _ c.before.before.before.before.before.loop.invariant.0 (part_cons _ _ _ c.before.before.before.before.loop-test.true c.before.before.before.before.before.loop.invariant.1) (rw c.before.before.before.word.ensures.0 at c.before.before.take-up.ensures) c.enum_told.given.1)
 
 add_a : tie.Need-overflow-add-a invariant-loop decreases-loop
-add_a c = omega (arith, taken-few _ _ _ _ _ c.before.before.before.take-up.ensures c.before.u.given.1)
+add_a c = omega (arith, taken_few _ _ _ _ _ c.before.before.before.take-up.ensures c.before.u.given.1)
 
 sub-m : tie.Need-overflow-sub-m invariant-loop decreases-loop
-sub-m c = taken-few _ _ _ _ _ c.before.before.before.take-up.ensures c.before.u.given.1
+sub-m c = taken_few _ _ _ _ _ c.before.before.before.take-up.ensures c.before.u.given.1
 
 add-b : tie.Need-overflow-add-b invariant-loop decreases-loop
 add-b c = search rules
@@ -53,10 +53,10 @@ loop-less : tie.Need-loop-smaller invariant-loop decreases-loop
 loop-less c = search rules
 
 loop-again : tie.Need-loop-preserved invariant-loop decreases-loop
-loop-again c = let t = without_on _ _ _ _ _ c.before.before.before.before.before.before.loop.invariant.0 (part-cons _ _ _ c.before.before.before.before.before.loop-test.true c.before.before.before.before.before.before.loop.invariant.1) (rw c.before.before.before.before.word.ensures.0 at c.before.before.before.take-up.ensures) c.before.u.given.1 in (omega (arith, taken-few _ _ _ _ _ c.before.before.before.take-up.ensures c.before.u.given.1), omega arith, c.before.before.before.before.before.before.loop.invariant.2 ∙ t)
+loop-again c = let t = without_on _ _ _ _ _ c.before.before.before.before.before.before.loop.invariant.0 (part_cons _ _ _ c.before.before.before.before.before.loop-test.true c.before.before.before.before.before.before.loop.invariant.1) (rw c.before.before.before.before.word.ensures.0 at c.before.before.before.take-up.ensures) c.before.u.given.1 in (omega (arith, taken_few _ _ _ _ _ c.before.before.before.take-up.ensures c.before.u.given.1), omega arith, c.before.before.before.before.before.before.loop.invariant.2 ∙ t)
 
 returns-2 : tie.Need-returns-2 invariant-loop decreases-loop
-returns-2 c = same_end _ _ _ c.before.loop.invariant.0 (omit-none _ (part_none _ _ _ c.loop-test.false)) ∙ sym c.before.loop.invariant.2
+returns-2 c = same_end _ _ _ c.before.loop.invariant.0 (omit_none _ (part_none _ _ _ c.loop-test.false)) ∙ sym c.before.loop.invariant.2
 
 pub same-without-spec : {M : Type 1} → statement M
 same-without-spec =

@@ -1,5 +1,5 @@
 -- `printed::answers_head` meets its contract: in each arm the answer is known.
-use Rattle.printed.specs.Lists.{answersHead}
+use Rattle.printed.specs.Lists.{answers_head}
 use borrow.Author.Rules.{rules}
 use Rattle.printed.proofs.answers_head.Statement.{statement}
 use Rattle.printed.proofs.answers_head.Tie as tie
@@ -23,14 +23,14 @@ same_length : tie.Need-same-length
 same_length c = search rules
 
 returns : tie.Need-returns
-unfolding answersHead
+unfolding answers_head
 returns c = rw c.before.before.before.before.before.before.answer.given.1 (c.before.before.headed.ensures.0, c.before.before.headed.ensures.1)
 
 same-length-2 : tie.Need-same-length-2
 same-length-2 c = search rules
 
 returns-2 : tie.Need-returns-2
-unfolding answersHead
+unfolding answers_head
 returns-2 c = rw c.before.before.before.before.before.answer2.given.1 c.before.before.reply-text.ensures
 
 pub answers-head-spec : {M : Type 1} → statement M

@@ -1,7 +1,7 @@
 -- `printed::headed` meets its contract: the title, and the number after it.
 use Rattle.text.specs.Line.{decimal}
-use Rattle.text.proofs.Put.{wrote-first, wrote-more}
-use Rattle.printed.proofs.Lists.{titled-short}
+use Rattle.text.proofs.Put.{wrote_first, wrote_more}
+use Rattle.printed.proofs.Lists.{titled_short}
 use borrow.Author.Rules.{rules}
 use Rattle.printed.proofs.headed.Statement.{statement}
 use Rattle.printed.proofs.headed.Tie as tie
@@ -19,8 +19,8 @@ returns : tie.Need-returns
 unfolding decimal
 returns c =
     let a = c.before.before.before.before.before.before.before.before.before.before.args in
-    let w = wrote-more a.out.now _ _ (wrote-first _ _ c.before.before.before.before.before.before.write.ensures) c.before.before.digits.ensures in
-    (w.0, w.1, titled-short a.title.now a.n w.1)
+    let w = wrote_more a.out.now _ _ (wrote_first _ _ c.before.before.before.before.before.before.write.ensures) c.before.before.digits.ensures in
+    (w.0, w.1, titled_short a.title.now a.n w.1)
 
 pub headed-spec : {M : Type 1} → statement M
 headed-spec = tie.close (tie.spec write-requires digits-requires same_length returns)

@@ -1,6 +1,6 @@
 -- `printed::papers_at` meets its contract: the two parts of the words are the papers.
-use Rattle.text.proofs.Put.{wrote-is}
-use Rattle.printed.proofs.Read.{papers-cut}
+use Rattle.text.proofs.Put.{wrote_is}
+use Rattle.printed.proofs.Read.{papers_cut}
 use borrow.Author.Rules.{rules}
 use Rattle.printed.proofs.papers_at.Statement.{statement}
 use Rattle.printed.proofs.papers_at.Tie as tie
@@ -42,7 +42,7 @@ same_length : tie.Need-same-length
 same_length c = search rules
 
 returns : tie.Need-returns
-returns c = let a = c.before.before.before.before.before.before.before.before.args in wrote-is a.out.now _ c.before.before.papers-line.ensures (papers-cut a.words.now a.at a.d a.c)
+returns c = let a = c.before.before.before.before.before.before.before.before.args in wrote_is a.out.now _ c.before.before.papers-line.ensures (papers_cut a.words.now a.at a.d a.c)
 
 pub papers-at-spec : {M : Type 1} → statement M
 papers-at-spec =

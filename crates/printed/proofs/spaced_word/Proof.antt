@@ -1,7 +1,7 @@
 -- `printed::spaced_word` meets its contract: a space, and the digits after it.
 use native.Mathlib.Omega.{arith}
 use Rattle.printed.specs.Lists.{spaced}
-use Rattle.text.proofs.Put.{placed-more}
+use Rattle.text.proofs.Put.{placed_more}
 use borrow.Author.Rules.{rules}
 use Rattle.printed.proofs.spaced_word.Statement.{statement}
 use Rattle.printed.proofs.spaced_word.Tie as tie
@@ -20,7 +20,7 @@ same_length c = search rules
 
 returns : tie.Need-returns
 unfolding spaced
-returns c = placed-more c.before.before.before.before.before.before.before.before.before.before.args.out.now c.before.before.before.before.before.before.before.before.before.before.args.at (omega (arith, c.before.before.before.before.before.before.before.before.before.before.requires)) _ _ c.before.before.before.before.before.before.write.ensures c.before.before.digits.ensures
+returns c = placed_more c.before.before.before.before.before.before.before.before.before.before.args.out.now c.before.before.before.before.before.before.before.before.before.before.args.at (omega (arith, c.before.before.before.before.before.before.before.before.before.before.requires)) _ _ c.before.before.before.before.before.before.write.ensures c.before.before.digits.ensures
 
 pub spaced-word-spec : {M : Type 1} → statement M
 spaced-word-spec =

@@ -6,7 +6,7 @@ use borrow.Author.Rules.{rules}
 use Rattle.promise.specs.Place.{place, Fit}
 use Rattle.promise.specs.Line.{literal}
 use Rattle.promise.specs.declared.LiteralAt.{LiteralAt}
-use Rattle.promise.proofs.Place.{place-on}
+use Rattle.promise.proofs.Place.{place_on}
 use Rattle.promise.proofs.after_literals.Statement.{statement}
 use Rattle.promise.proofs.after_literals.Tie as tie
 
@@ -33,7 +33,7 @@ loop-less c = search rules
 loop-again : tie.Need-loop-preserved invariant-loop decreases-loop
 loop-again c =
     let a = c.before.before.before.before.args in
-    (search rules, place-on (literal.next a.s.now) a.p c.before.before.loop.i c.before.before.loop.invariant.1 (ap (λ (v : LiteralAt). v.next) c.literal-at.ensures))
+    (search rules, place_on (literal.next a.s.now) a.p c.before.before.loop.i c.before.before.loop.invariant.1 (ap (λ (v : LiteralAt). v.next) c.literal-at.ensures))
 
 returns : tie.Need-returns invariant-loop decreases-loop
 returns c = let e : c.before.loop.i ≡ c.before.before.before.args.k = omega arith in c.before.loop.invariant.1 ∙ ap (place _ _) e

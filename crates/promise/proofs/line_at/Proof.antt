@@ -1,7 +1,7 @@
 -- `promise::line_at` meets its contract: the words that it reads are those of the decoder.
 use native.Mathlib.Omega.{arith}
 use mathlib.Core.Path.{ap, ◌∙◌}
-use Rattle.promise.specs.Line.{dataCount}
+use Rattle.promise.specs.Line.{data_count}
 use borrow.Author.Rules.{rules}
 use Rattle.promise.proofs.line_at.Statement.{statement}
 use Rattle.promise.proofs.line_at.Tie as tie
@@ -26,12 +26,12 @@ add-t6 c = search rules
 
 word-requires-2 : tie.Need-word-requires-2
 word-requires-2 c κs =
-    let d = c.data-count.ensures.0 ∙ ap dataCount c.before.word.ensures.0 in
+    let d = c.data-count.ensures.0 ∙ ap data_count c.before.word.ensures.0 in
     omega arith
 
 returns : tie.Need-returns
 returns c =
-    let d = c.before.data-count.ensures.0 ∙ ap dataCount c.before.before.word.ensures.0 in
+    let d = c.before.data-count.ensures.0 ∙ ap data_count c.before.before.word.ensures.0 in
     cc (d, c.before.before.word.ensures.0, c.word2.ensures.0)
 
 pub line-at-spec : {M : Type 1} → statement M

@@ -5,9 +5,9 @@ use native.Mathlib.Omega.{arith}
 use borrow.Author.Rules.{rules}
 use lib.ListN.{length}
 use Rattle.meaning.specs.Tests.{same}
-use Rattle.promise.proofs.Place.{part-cons, part_none}
+use Rattle.promise.proofs.Place.{part_cons, part_none}
 use Rattle.promise.specs.Place.{part}
-use Rattle.promise.proofs.Step.{same-differ, same_none, same_not, same-on}
+use Rattle.promise.proofs.Step.{same_differ, same_none, same_not, same_on}
 use Rattle.promise.proofs.same_words.Statement.{statement}
 use Rattle.promise.proofs.same_words.Tie as tie
 
@@ -18,7 +18,7 @@ abbrev decreases-loop : tie.decreases-loop
 decreases-loop s p k t q j a₀ b₀ left₀ a b left = left
 
 returns : tie.Need-returns invariant-loop decreases-loop
-returns c = sym (same-differ _ _ _ _ _ _ c.before.requires.0 c.before.requires.1 c.if1.true)
+returns c = sym (same_differ _ _ _ _ _ _ c.before.requires.0 c.before.requires.1 c.if1.true)
 
 loop-holds : tie.Need-loop-init invariant-loop decreases-loop
 loop-holds c = (c.before.requires.0, omega arith, cc)
@@ -36,7 +36,7 @@ shared-slice-read-if2-2 : tie.Need-shared-slice-read-if2-2 invariant-loop decrea
 shared-slice-read-if2-2 c = search rules
 
 returns-2 : tie.Need-returns-2 invariant-loop decreases-loop
-returns-2 c = sym (c.before.before.before.before.loop.invariant.2 ∙ same_not (part-cons _ _ _ c.before.before.before.loop-test.true c.before.before.before.before.loop.invariant.0) (part-cons _ _ _ c.before.before.before.loop-test.true c.before.before.before.before.loop.invariant.1) c.if2.true)
+returns-2 c = sym (c.before.before.before.before.loop.invariant.2 ∙ same_not (part_cons _ _ _ c.before.before.before.loop-test.true c.before.before.before.before.loop.invariant.0) (part_cons _ _ _ c.before.before.before.loop-test.true c.before.before.before.before.loop.invariant.1) c.if2.true)
 
 add_a : tie.Need-overflow-add-a invariant-loop decreases-loop
 add_a c = search rules
@@ -51,7 +51,7 @@ loop-less : tie.Need-loop-smaller invariant-loop decreases-loop
 loop-less c = search rules
 
 loop-again : tie.Need-loop-preserved invariant-loop decreases-loop
-loop-again c = (omega arith, omega arith, c.before.before.before.before.loop.invariant.2 ∙ same-on (part-cons _ _ _ c.before.before.before.loop-test.true c.before.before.before.before.loop.invariant.0) (part-cons _ _ _ c.before.before.before.loop-test.true c.before.before.before.before.loop.invariant.1) c.if2.false)
+loop-again c = (omega arith, omega arith, c.before.before.before.before.loop.invariant.2 ∙ same_on (part_cons _ _ _ c.before.before.before.loop-test.true c.before.before.before.before.loop.invariant.0) (part_cons _ _ _ c.before.before.before.loop-test.true c.before.before.before.before.loop.invariant.1) c.if2.false)
 
 returns-3 : tie.Need-returns-3 invariant-loop decreases-loop
 returns-3 c = sym (c.before.loop.invariant.2 ∙ same_none (part_none _ _ _ c.loop-test.false) (part_none _ _ _ c.loop-test.false))

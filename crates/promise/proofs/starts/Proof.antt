@@ -6,7 +6,7 @@ use borrow.Author.Rules.{rules}
 use lib.ListN.{length}
 use Rattle.promise.specs.Place.{place, filled}
 use Rattle.promise.specs.Thing.{next_of, FitOf}
-use Rattle.promise.proofs.Place.{place-on, filled_none, filled_on, filled-length}
+use Rattle.promise.proofs.Place.{place_on, filled_none, filled_on, filled_length}
 use Rattle.promise.proofs.starts.Statement.{statement}
 use Rattle.promise.proofs.starts.Tie as tie
 
@@ -24,7 +24,7 @@ mul-table : tie.Need-overflow-mul-table invariant-loop decreases-loop
 mul-table c = search rules
 
 slice-write-table : tie.Need-slice-write-table invariant-loop decreases-loop
-slice-write-table c = let e = ap length c.before.loop.invariant.2 ∙ filled-length _ _ _ (search rules) in omega (arith, c.before.before.before.before.requires.1)
+slice-write-table c = let e = ap length c.before.loop.invariant.2 ∙ filled_length _ _ _ (search rules) in omega (arith, c.before.before.before.before.requires.1)
 
 next-at-requires : tie.Need-next-at-requires invariant-loop decreases-loop
 unfolding FitOf
@@ -39,10 +39,10 @@ loop-less c = search rules
 loop-again : tie.Need-loop-preserved invariant-loop decreases-loop
 loop-again c =
     let a = c.before.before.before.before.before.args in
-    (search rules, place-on (next_of a.thing a.s.now) a.p c.before.before.loop.i c.before.before.loop.invariant.1 c.next-at.ensures, filled_on _ _ _ c.before.before.loop.invariant.2 c.before.before.loop.invariant.1 (omega (arith, c.before.before.before.before.before.requires.1)))
+    (search rules, place_on (next_of a.thing a.s.now) a.p c.before.before.loop.i c.before.before.loop.invariant.1 c.next-at.ensures, filled_on _ _ _ c.before.before.loop.invariant.2 c.before.before.loop.invariant.1 (omega (arith, c.before.before.before.before.before.requires.1)))
 
 same_length : tie.Need-same-length invariant-loop decreases-loop
-same_length c = ap length c.before.loop.invariant.2 ∙ filled-length _ _ _ (omega (arith, c.before.before.before.before.requires.1))
+same_length c = ap length c.before.loop.invariant.2 ∙ filled_length _ _ _ (omega (arith, c.before.before.before.before.requires.1))
 
 returns : tie.Need-returns invariant-loop decreases-loop
 returns c =

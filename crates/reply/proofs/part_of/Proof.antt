@@ -22,9 +22,9 @@ module _ (s : Bor (List ℕ)) (place count : ℕ) where
   unfolding part_at
   at_place h = (rw (fits s.now place count h, add-sub_cancel_left), rw (starts s.now place count h))
 
-  at-end : length s.now < place + count → Cut s (length s.now) (length s.now) place count
+  at_end : length s.now < place + count → Cut s (length s.now) (length s.now) place count
   unfolding part_at
-  at-end h = (rw (unfit s.now place count h, sub_self), rw (ends s.now place count h))
+  at_end h = (rw (unfit s.now place count h, sub_self), rw (ends s.now place count h))
 
 mul-result : tie.Need-overflow-mul-result
 mul-result c = search rules
@@ -39,7 +39,7 @@ part-result-end : tie.Need-slice-bounds-result-end
 part-result-end c = search rules
 
 returns : tie.Need-returns
-returns c = at-end _ _ _ (omega arith)
+returns c = at_end _ _ _ (omega arith)
 
 add-result : tie.Need-overflow-add-result
 add-result c = search rules
@@ -72,7 +72,7 @@ returns-2 : tie.Need-returns-2
 returns-2 c = at_place _ _ _ (omega arith)
 
 returns-3 : tie.Need-returns-3
-returns-3 c = at-end _ _ _ (omega arith)
+returns-3 c = at_end _ _ _ (omega arith)
 
 pub part-of-spec : {M : Type 1} → statement M
 part-of-spec =

@@ -1,6 +1,6 @@
 -- `reply::shown` meets its contract: in each arm the paper is known, and of that paper `part_of` ensures the rest. Assumes nothing.
 use borrow.Author.Rules.{rules}
-use Rattle.reply.specs.Shown.{shownOf, shownAt}
+use Rattle.reply.specs.Shown.{shown_of, shown_at}
 use Rattle.reply.proofs.shown.Statement.{statement}
 use Rattle.reply.proofs.shown.Tie as tie
 
@@ -17,11 +17,11 @@ part-of-requires-2 : tie.Need-part-of-requires-2
 part-of-requires-2 c κs = search rules
 
 returns : tie.Need-returns
-unfolding shownOf shownAt
+unfolding shown_of shown_at
 returns c = rw c.before.enum_told.given.1 c.part_of.ensures
 
 returns-2 : tie.Need-returns-2
-unfolding shownOf shownAt
+unfolding shown_of shown_at
 returns-2 c = rw c.before.enum-told2.given.1 c.part-of2.ensures
 
 pub shown-spec : {M : Type 1} → statement M

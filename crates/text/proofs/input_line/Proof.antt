@@ -1,5 +1,5 @@
 -- `text::input_line` meets its contract.
-use Rattle.text.specs.Line.{inputLine}
+use Rattle.text.specs.Line.{input_line}
 use borrow.Author.Rules.{rules}
 use Rattle.text.proofs.input_line.Statement.{statement}
 use Rattle.text.proofs.input_line.Tie as tie
@@ -14,7 +14,7 @@ same_length : tie.Need-same-length
 same_length c = search rules
 
 returns : tie.Need-returns
-unfolding inputLine
+unfolding input_line
 returns c = c.before.before.write.ensures
 
 pub input-line-spec : {M : Type 1} → statement M

@@ -2,7 +2,7 @@
 use native.Mathlib.Omega.{arith}
 use mathlib.Core.List.{[], ◌∷◌}
 use Rattle.text.specs.Line.{line_of}
-use Rattle.text.proofs.Put.{wrote-more, reply-short}
+use Rattle.text.proofs.Put.{wrote_more, reply_short}
 use borrow.Author.Rules.{rules}
 use Rattle.text.proofs.line.Statement.{statement}
 use Rattle.text.proofs.line.Tie as tie
@@ -14,14 +14,14 @@ slice-aggregate-write : tie.Need-slice-aggregate-write
 slice-aggregate-write c = search rules
 
 write-requires : tie.Need-write-requires
-write-requires c κs = let a = c.before.before.before.before.before.before.before.args in omega (arith, reply-short a.reply)
+write-requires c κs = let a = c.before.before.before.before.before.before.before.args in omega (arith, reply_short a.reply)
 
 same_length : tie.Need-same-length
 same_length c = search rules
 
 returns : tie.Need-returns
 unfolding line_of
-returns c = wrote-more c.before.before.before.before.before.before.before.before.before.before.args.out.now _ (10 ∷ []) c.before.before.before.before.before.before.before.reply-text.ensures c.before.before.write.ensures
+returns c = wrote_more c.before.before.before.before.before.before.before.before.before.before.args.out.now _ (10 ∷ []) c.before.before.before.before.before.before.before.reply-text.ensures c.before.before.write.ensures
 
 pub line-spec : {M : Type 1} → statement M
 line-spec =

@@ -1,5 +1,5 @@
 -- `text::reply_text` meets its contract: in each arm the verdict is known.
-use Rattle.text.specs.Line.{replyText, verdictText}
+use Rattle.text.specs.Line.{reply_text, verdict_text}
 use borrow.Author.Rules.{rules}
 use Rattle.text.proofs.reply_text.Statement.{statement}
 use Rattle.text.proofs.reply_text.Tie as tie
@@ -32,21 +32,21 @@ same_length : tie.Need-same-length
 same_length c = search rules
 
 returns : tie.Need-returns
-unfolding replyText verdictText
+unfolding reply_text verdict_text
 returns c = rw c.before.before.before.before.before.enum_told.given.1 c.before.before.write.ensures
 
 same-length-2 : tie.Need-same-length-2
 same-length-2 c = search rules
 
 returns-2 : tie.Need-returns-2
-unfolding replyText verdictText
+unfolding reply_text verdict_text
 returns-2 c = rw c.before.before.before.before.before.enum-told2.given.1 c.before.before.write2.ensures
 
 same-length-3 : tie.Need-same-length-3
 same-length-3 c = search rules
 
 returns-3 : tie.Need-returns-3
-unfolding replyText verdictText
+unfolding reply_text verdict_text
 returns-3 c = rw c.before.before.before.before.before.verdict.given.1 c.before.before.refusal.ensures
 
 pub reply-text-spec : {M : Type 1} → statement M

@@ -1,5 +1,5 @@
 -- `trial::bytes_case` meets its contract.
-use Rattle.trial.proofs.Cases.{bytes-few, bytes-over}
+use Rattle.trial.proofs.Cases.{bytes_few, bytes_over}
 use borrow.Author.Rules.{rules}
 use Rattle.trial.proofs.bytes_case.Statement.{statement}
 use Rattle.trial.proofs.bytes_case.Tie as tie
@@ -23,10 +23,10 @@ add-n : tie.Need-overflow-add-n
 add-n c = search rules
 
 returns : tie.Need-returns
-returns c = bytes-few _ c.before.before.word-at.ensures.0 c.before.word-at2.ensures.0 c.if1.true
+returns c = bytes_few _ c.before.before.word-at.ensures.0 c.before.word-at2.ensures.0 c.if1.true
 
 returns-2 : tie.Need-returns-2
-returns-2 c = bytes-over _ c.before.before.word-at.ensures.0 c.before.word-at2.ensures.0 c.if1.false
+returns-2 c = bytes_over _ c.before.before.word-at.ensures.0 c.before.word-at2.ensures.0 c.if1.false
 
 pub bytes-case-spec : {M : Type 1} → statement M
 bytes-case-spec =

@@ -5,8 +5,8 @@ use Prim.Native.Nat.{◌≤◌, ◌-◌}
 use mathlib.Core.Path.{◌≡◌, refl, ap, ◌∙◌}
 use lib.ListN.{length}
 use Rattle.promise.specs.Place.{filled}
-use Rattle.promise.proofs.Place.{filled_none, filled_on, filled-length}
-use Rattle.trial.proofs.Lines.{filled-all}
+use Rattle.promise.proofs.Place.{filled_none, filled_on, filled_length}
+use Rattle.trial.proofs.Lines.{filled_all}
 use Rattle.trial.proofs.fill.Statement.{statement}
 use Rattle.trial.proofs.fill.Tie as tie
 
@@ -23,7 +23,7 @@ mul-table : tie.Need-overflow-mul-table invariant-loop decreases-loop
 mul-table c = search rules
 
 slice-write-table : tie.Need-slice-write-table invariant-loop decreases-loop
-slice-write-table c = let e = ap length c.before.loop.invariant.1 ∙ filled-length _ c.before.loop.i c.before.before.args.table.now c.before.loop.invariant.0 in omega arith
+slice-write-table c = let e = ap length c.before.loop.invariant.1 ∙ filled_length _ c.before.loop.i c.before.before.args.table.now c.before.loop.invariant.0 in omega arith
 
 add-i : tie.Need-overflow-add-i invariant-loop decreases-loop
 add-i c = search rules
@@ -35,10 +35,10 @@ loop-again : tie.Need-loop-preserved invariant-loop decreases-loop
 loop-again c = (search rules, filled_on _ _ _ c.before.loop.invariant.1 refl (omega arith))
 
 same_length : tie.Need-same-length invariant-loop decreases-loop
-same_length c = ap length c.before.loop.invariant.1 ∙ filled-length _ _ _ (omega arith)
+same_length c = ap length c.before.loop.invariant.1 ∙ filled_length _ _ _ (omega arith)
 
 returns : tie.Need-returns invariant-loop decreases-loop
-returns c = filled-all _ c.before.loop.i c.before.before.args.table.now c.before.loop.invariant.1 (omega arith)
+returns c = filled_all _ c.before.loop.i c.before.before.args.table.now c.before.loop.invariant.1 (omega arith)
 
 pub fill_spec : {M : Type 1} → statement M
 fill_spec =

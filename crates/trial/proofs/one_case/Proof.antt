@@ -2,7 +2,7 @@
 use native.Mathlib.Omega.{arith}
 use mathlib.Core.Path.{sym}
 use lib.Seq.{length-take-le}
-use Rattle.trial.proofs.Cases.{header-few, case-fits}
+use Rattle.trial.proofs.Cases.{header_few, case_fits}
 use borrow.Author.Rules.{rules}
 use Rattle.trial.proofs.one_case.Statement.{statement}
 use Rattle.trial.proofs.one_case.Tie as tie
@@ -35,19 +35,19 @@ header-size-requires : tie.Need-header-size-requires
 header-size-requires c κs = search rules
 
 read-requires-2 : tie.Need-read-requires-2
-read-requires-2 c κs = omega (arith, header-few c.before.before.word-at.result, c.before.header-size.ensures, c.before.before.before.before.before.before.before.before.read.auto.0, c.before.before.before.before.before.before.before.before.before.before.before.before.before.before.requires.0)
+read-requires-2 c κs = omega (arith, header_few c.before.before.word-at.result, c.before.header-size.ensures, c.before.before.before.before.before.before.before.before.read.auto.0, c.before.before.before.before.before.before.before.before.before.before.before.before.before.before.requires.0)
 
 slice-reshare-prefix-case-of : tie.Need-slice-reshare-prefix-case-of
-slice-reshare-prefix-case-of c = omega (arith, header-few c.before.before.before.before.before.before.word-at.result, c.before.before.before.before.before.header-size.ensures, c.before.before.before.before.before.before.before.before.before.before.before.before.read.auto.0, c.before.before.before.before.before.before.before.before.before.before.before.before.before.before.before.before.before.before.requires.0, c.before.before.before.read2.auto.0)
+slice-reshare-prefix-case-of c = omega (arith, header_few c.before.before.before.before.before.before.word-at.result, c.before.before.before.before.before.header-size.ensures, c.before.before.before.before.before.before.before.before.before.before.before.before.read.auto.0, c.before.before.before.before.before.before.before.before.before.before.before.before.before.before.before.before.before.before.requires.0, c.before.before.before.read2.auto.0)
 
 slice-aggregate-case-of : tie.Need-slice-aggregate-case-of
-slice-aggregate-case-of c = sym (length-take-le c.before.before.before.before.before.before.header-size.result c.before.before.before.before.read2.new.0 (omega (arith, header-few c.before.before.before.before.before.before.before.word-at.result, c.before.before.before.before.before.before.header-size.ensures, c.before.before.before.before.before.before.before.before.before.before.before.before.before.read.auto.0, c.before.before.before.before.before.before.before.before.before.before.before.before.before.before.before.before.before.before.before.requires.0, c.before.before.before.before.read2.auto.0)))
+slice-aggregate-case-of c = sym (length-take-le c.before.before.before.before.before.before.header-size.result c.before.before.before.before.read2.new.0 (omega (arith, header_few c.before.before.before.before.before.before.before.word-at.result, c.before.before.before.before.before.before.header-size.ensures, c.before.before.before.before.before.before.before.before.before.before.before.before.before.read.auto.0, c.before.before.before.before.before.before.before.before.before.before.before.before.before.before.before.before.before.before.before.requires.0, c.before.before.before.before.read2.auto.0)))
 
 case-of-requires : tie.Need-case-of-requires
-case-of-requires c κs = let e = length-take-le c.before.before.before.before.before.before.header-size.result c.before.before.before.before.read2.new.0 (omega (arith, header-few c.before.before.before.before.before.before.before.word-at.result, c.before.before.before.before.before.before.header-size.ensures, c.before.before.before.before.before.before.before.before.before.before.before.before.before.read.auto.0, c.before.before.before.before.before.before.before.before.before.before.before.before.before.before.before.before.before.before.before.requires.0, c.before.before.before.before.read2.auto.0)) in omega (arith, e, c.before.before.before.before.before.before.header-size.ensures)
+case-of-requires c κs = let e = length-take-le c.before.before.before.before.before.before.header-size.result c.before.before.before.before.read2.new.0 (omega (arith, header_few c.before.before.before.before.before.before.before.word-at.result, c.before.before.before.before.before.before.header-size.ensures, c.before.before.before.before.before.before.before.before.before.before.before.before.before.read.auto.0, c.before.before.before.before.before.before.before.before.before.before.before.before.before.before.before.before.before.before.before.requires.0, c.before.before.before.before.read2.auto.0)) in omega (arith, e, c.before.before.before.before.before.before.header-size.ensures)
 
 rest-of-case-requires : tie.Need-rest-of-case-requires
-rest-of-case-requires c κs = (case-fits _ _ c.before.before.before.before.case-of.ensures, omega (arith, header-few c.before.before.before.before.before.before.before.before.before.before.before.before.word-at.result, c.before.before.before.before.before.before.before.before.before.before.before.header-size.ensures, c.before.before.before.before.before.before.before.before.before.before.before.before.before.before.before.before.before.before.read.auto.0, c.before.before.before.before.before.before.before.before.before.before.before.before.before.before.before.before.before.before.before.before.before.before.before.before.requires.0, c.before.before.before.before.before.before.before.before.before.read2.auto.0), c.before.before.before.before.before.before.before.before.before.before.before.before.before.before.before.before.before.before.before.before.before.before.before.before.requires.1)
+rest-of-case-requires c κs = (case_fits _ _ c.before.before.before.before.case-of.ensures, omega (arith, header_few c.before.before.before.before.before.before.before.before.before.before.before.before.word-at.result, c.before.before.before.before.before.before.before.before.before.before.before.header-size.ensures, c.before.before.before.before.before.before.before.before.before.before.before.before.before.before.before.before.before.before.read.auto.0, c.before.before.before.before.before.before.before.before.before.before.before.before.before.before.before.before.before.before.before.before.before.before.before.before.requires.0, c.before.before.before.before.before.before.before.before.before.read2.auto.0), c.before.before.before.before.before.before.before.before.before.before.before.before.before.before.before.before.before.before.before.before.before.before.before.before.requires.1)
 
 same-length-4 : tie.Need-same-length-4
 same-length-4 c = search rules

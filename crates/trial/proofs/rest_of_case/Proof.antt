@@ -4,7 +4,7 @@ use mathlib.Core.Path.{sym, ◌∙◌}
 use lib.ListN.{take}
 use lib.Seq.{length-take-le}
 use Rattle.trial.proofs.Cases.{size_few}
-use Rattle.trial.proofs.Lines.{case-line-short}
+use Rattle.trial.proofs.Lines.{case_line_short}
 use borrow.Author.Rules.{rules}
 use Rattle.trial.proofs.rest_of_case.Statement.{statement}
 use Rattle.trial.proofs.rest_of_case.Tie as tie
@@ -37,10 +37,10 @@ case-line-requires : tie.Need-case-line-requires
 case-line-requires c κs = (c.before.before.before.before.before.before.before.before.before.before.before.before.before.before.before.requires.0, length-take-le c.before.before.before.before.before.before.before.before.before.body-size.result c.before.before.before.before.before.before.before.read.new.0 (omega (arith, size_few c.before.before.before.before.before.before.before.before.before.before.before.before.before.before.before.args.case c.before.before.before.before.before.before.before.before.before.before.before.before.before.before.before.requires.0, c.before.before.before.before.before.before.before.before.before.body-size.ensures, c.before.before.before.before.before.before.before.before.before.before.before.before.before.before.before.requires.1, c.before.before.before.before.before.before.before.read.auto.0)) ∙ c.before.before.before.before.before.before.before.before.before.body-size.ensures, c.before.before.before.before.before.before.before.before.before.before.before.before.before.before.before.requires.2)
 
 slice-reshare-prefix-write-all : tie.Need-slice-reshare-prefix-write-all
-slice-reshare-prefix-write-all c = omega (arith, case-line-short c.before.before.before.before.before.before.before.before.before.before.before.before.before.before.before.before.before.before.before.before.before.before.args.case (take c.before.before.before.before.before.before.before.before.before.before.before.before.before.before.before.before.body-size.result c.before.before.before.before.before.before.before.before.before.before.before.before.before.before.read.new.0) c.before.before.before.before.before.before.before.before.before.before.before.before.before.before.before.before.before.before.before.before.before.before.requires.0, c.before.before.before.before.before.before.case-line.ensures.1, c.before.before.before.before.before.before.case-line.auto.1.1.1.1.0, c.before.before.before.before.before.before.before.before.before.before.before.before.before.before.before.before.before.before.before.before.before.before.requires.2.forLine)
+slice-reshare-prefix-write-all c = omega (arith, case_line_short c.before.before.before.before.before.before.before.before.before.before.before.before.before.before.before.before.before.before.before.before.before.before.args.case (take c.before.before.before.before.before.before.before.before.before.before.before.before.before.before.before.before.body-size.result c.before.before.before.before.before.before.before.before.before.before.before.before.before.before.read.new.0) c.before.before.before.before.before.before.before.before.before.before.before.before.before.before.before.before.before.before.before.before.before.before.requires.0, c.before.before.before.before.before.before.case-line.ensures.1, c.before.before.before.before.before.before.case-line.auto.1.1.1.1.0, c.before.before.before.before.before.before.before.before.before.before.before.before.before.before.before.before.before.before.before.before.before.before.requires.2.for_line)
 
 slice-aggregate-write-all : tie.Need-slice-aggregate-write-all
-slice-aggregate-write-all c = sym (length-take-le c.before.before.before.before.before.before.before.case-line.result c.before.before.before.before.before.before.before.case-line.new.1.1.1.1.0 (omega (arith, case-line-short c.before.before.before.before.before.before.before.before.before.before.before.before.before.before.before.before.before.before.before.before.before.before.before.args.case (take c.before.before.before.before.before.before.before.before.before.before.before.before.before.before.before.before.before.body-size.result c.before.before.before.before.before.before.before.before.before.before.before.before.before.before.before.read.new.0) c.before.before.before.before.before.before.before.before.before.before.before.before.before.before.before.before.before.before.before.before.before.before.before.requires.0, c.before.before.before.before.before.before.before.case-line.ensures.1, c.before.before.before.before.before.before.before.case-line.auto.1.1.1.1.0, c.before.before.before.before.before.before.before.before.before.before.before.before.before.before.before.before.before.before.before.before.before.before.before.requires.2.forLine)))
+slice-aggregate-write-all c = sym (length-take-le c.before.before.before.before.before.before.before.case-line.result c.before.before.before.before.before.before.before.case-line.new.1.1.1.1.0 (omega (arith, case_line_short c.before.before.before.before.before.before.before.before.before.before.before.before.before.before.before.before.before.before.before.before.before.before.before.args.case (take c.before.before.before.before.before.before.before.before.before.before.before.before.before.before.before.before.before.body-size.result c.before.before.before.before.before.before.before.before.before.before.before.before.before.before.before.read.new.0) c.before.before.before.before.before.before.before.before.before.before.before.before.before.before.before.before.before.before.before.before.before.before.before.requires.0, c.before.before.before.before.before.before.before.case-line.ensures.1, c.before.before.before.before.before.before.before.case-line.auto.1.1.1.1.0, c.before.before.before.before.before.before.before.before.before.before.before.before.before.before.before.before.before.before.before.before.before.before.before.requires.2.for_line)))
 
 write-all-requires : tie.Need-write-all-requires
 write-all-requires c κs = search rules

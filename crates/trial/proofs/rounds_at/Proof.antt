@@ -2,7 +2,7 @@
 use native.Mathlib.Omega.{arith}
 use mathlib.Core.Path.{sym}
 use lib.Seq.{length-take-le}
-use Rattle.printed.proofs.Read.{cut-part}
+use Rattle.printed.proofs.Read.{cut_part}
 use Rattle.trial.proofs.Lines.{first_part}
 use borrow.Author.Rules.{rules}
 use Rattle.trial.proofs.rounds_at.Statement.{statement}
@@ -41,7 +41,7 @@ same-length-2 c = search rules
 returns : tie.Need-returns
 returns c =
     let a = c.before.before.before.before.before.before.before.before.before.before.before.before.before.before.before.before.args in
-    rw (← first_part a.words.now a.d, ← cut-part a.words.now a.d a.c, sym c.before.before.before.before.before.before.before.before.before.before.before.fill.ensures) (c.before.before.before.before.rounds-line.ensures.0, c.before.before.before.before.rounds-line.ensures.1)
+    rw (← first_part a.words.now a.d, ← cut_part a.words.now a.d a.c, sym c.before.before.before.before.before.before.before.before.before.before.before.fill.ensures) (c.before.before.before.before.rounds-line.ensures.0, c.before.before.before.before.rounds-line.ensures.1)
 
 pub rounds-at-spec : {M : Type 1} → statement M
 rounds-at-spec =

@@ -1,6 +1,6 @@
 -- `trial::rounds_case` meets its contract: a table within the limit, or not.
 use mathlib.Core.Path.{◌∙◌}
-use Rattle.trial.proofs.Cases.{rounds-few, rounds-over}
+use Rattle.trial.proofs.Cases.{rounds_few, rounds_over}
 use borrow.Author.Rules.{rules}
 use Rattle.trial.proofs.rounds_case.Statement.{statement}
 use Rattle.trial.proofs.rounds_case.Tie as tie
@@ -21,10 +21,10 @@ table-case-requires : tie.Need-table-case-requires
 table-case-requires c κs = search rules
 
 returns : tie.Need-returns
-returns c = c.table-case.ensures ∙ rounds-few _ c.before.before.before.word-at2.ensures.0 c.before.before.before.before.word-at.ensures.0 c.before.before.sizes-at.ensures c.before.if1.true
+returns c = c.table-case.ensures ∙ rounds_few _ c.before.before.before.word-at2.ensures.0 c.before.before.before.before.word-at.ensures.0 c.before.before.sizes-at.ensures c.before.if1.true
 
 returns-2 : tie.Need-returns-2
-returns-2 c = rounds-over _ c.before.before.word-at2.ensures.0 c.if1.false
+returns-2 c = rounds_over _ c.before.before.word-at2.ensures.0 c.if1.false
 
 pub rounds-case-spec : {M : Type 1} → statement M
 rounds-case-spec =

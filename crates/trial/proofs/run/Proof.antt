@@ -19,7 +19,7 @@ one-case-requires : tie.Need-one-case-requires invariant-loop decreases-loop
 one-case-requires c κs =
     let i = c.before.before.before.before.before.loop.invariant in
     let h = c.before.before.before.before.before.before.before.before.before.before.requires in
-    (omega (arith, i.0, h.0), record { forWords = omega (arith, i.1, h.1.forWords); forTable = omega (arith, i.2, h.1.forTable); forLine = omega (arith, i.3, h.1.forLine) })
+    (omega (arith, i.0, h.0), record { for_words = omega (arith, i.1, h.1.for_words); for_table = omega (arith, i.2, h.1.for_table); for_line = omega (arith, i.3, h.1.for_line) })
 
 sub-turns : tie.Need-overflow-sub-turns invariant-loop decreases-loop
 sub-turns c = search rules

@@ -3,7 +3,7 @@ use native.Mathlib.Omega.{arith}
 use mathlib.Core.Path.{sym, ap, ◌∙◌}
 use lib.ListN.{length}
 use lib.Seq.{length-take-le}
-use Rattle.printed.proofs.Read.{cut-part}
+use Rattle.printed.proofs.Read.{cut_part}
 use Rattle.trial.proofs.Lines.{first_part, part_length}
 use borrow.Author.Rules.{rules}
 use Rattle.trial.proofs.shown_at.Statement.{statement}
@@ -31,14 +31,14 @@ shown-line-requires : tie.Need-shown-line-requires
 shown-line-requires c κs =
     let a = c.before.before.before.before.before.args in
     let e = length-take-le a.d a.words.now (omega (arith, c.before.before.before.before.before.requires)) in
-    let f = ap length (cut-part a.words.now a.d a.c) ∙ part_length a.words.now a.d a.c (omega (arith, c.before.before.before.before.before.requires)) in
+    let f = ap length (cut_part a.words.now a.d a.c) ∙ part_length a.words.now a.d a.c (omega (arith, c.before.before.before.before.before.requires)) in
     omega (arith, e, f, c.before.before.before.before.before.requires)
 
 same_length : tie.Need-same-length
 same_length c = search rules
 
 returns : tie.Need-returns
-returns c = let a = c.before.before.before.before.before.before.before.before.args in rw (← first_part a.words.now a.d, ← cut-part a.words.now a.d a.c) c.before.before.shown-line.ensures
+returns c = let a = c.before.before.before.before.before.before.before.before.args in rw (← first_part a.words.now a.d, ← cut_part a.words.now a.d a.c) c.before.before.shown-line.ensures
 
 pub shown-at-spec : {M : Type 1} → statement M
 shown-at-spec =

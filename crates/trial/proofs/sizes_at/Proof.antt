@@ -1,5 +1,5 @@
 -- `trial::sizes_at` meets its contract.
-use Rattle.trial.proofs.Cases.{sizes-both, sizes-over}
+use Rattle.trial.proofs.Cases.{sizes_both, sizes_over}
 use borrow.Author.Rules.{rules}
 use Rattle.trial.proofs.sizes_at.Statement.{statement}
 use Rattle.trial.proofs.sizes_at.Tie as tie
@@ -23,10 +23,10 @@ add-if1 : tie.Need-overflow-add-if1
 add-if1 c = search rules
 
 returns : tie.Need-returns
-returns c = sizes-both _ _ c.before.before.word-at.ensures.0 c.before.word-at2.ensures.0 c.if1.true
+returns c = sizes_both _ _ c.before.before.word-at.ensures.0 c.before.word-at2.ensures.0 c.if1.true
 
 returns-2 : tie.Need-returns-2
-returns-2 c = sizes-over _ _ c.before.before.word-at.ensures.0 c.before.word-at2.ensures.0 c.if1.false
+returns-2 c = sizes_over _ _ c.before.before.word-at.ensures.0 c.before.word-at2.ensures.0 c.if1.false
 
 pub sizes-at-spec : {M : Type 1} → statement M
 sizes-at-spec =

@@ -1,6 +1,6 @@
 -- `verdict::judge_lines` meets its contract: it fills the table of the clauses, and either table has room for the lines.
-use Rattle.lines.proofs.Tables.{clauses-filled}
-use Rattle.verdict.proofs.Tables.{clauses-fit, rules-ready}
+use Rattle.lines.proofs.Tables.{clauses_filled}
+use Rattle.verdict.proofs.Tables.{clauses_fit, rules_ready}
 use borrow.Author.Rules.{rules}
 use Rattle.verdict.proofs.judge_lines.Statement.{statement}
 use Rattle.verdict.proofs.judge_lines.Tie as tie
@@ -12,7 +12,7 @@ starts-requires : tie.Need-starts-requires
 starts-requires c κs =
     let start = c.before.before.before.before.before.before in
     let a = start.args in
-    (clauses-fit a.d.now a.o start.requires.0, start.requires.0.fewClauses)
+    (clauses_fit a.d.now a.o start.requires.0, start.requires.0.few_clauses)
 
 slice-aggregate-judge-proof : tie.Need-slice-aggregate-judge-proof
 slice-aggregate-judge-proof c = search rules
@@ -25,7 +25,7 @@ judge-proof-requires c κs =
     let start = c.before.before.before.before.before.before.before.before.before.before.before in
     let a = start.args in
     let pre = start.requires in
-    (rules-ready a.d.now a.o a.told.now pre.3 pre.0 (clauses-filled a.d.now a.o _ c.before.before.before.before.starts.ensures pre.0.fewClauses) pre.1 pre.2 pre.4, c.before.before.if1.true, pre.7, pre.5, pre.6)
+    (rules_ready a.d.now a.o a.told.now pre.3 pre.0 (clauses_filled a.d.now a.o _ c.before.before.before.before.starts.ensures pre.0.few_clauses) pre.1 pre.2 pre.4, c.before.before.if1.true, pre.7, pre.5, pre.6)
 
 returns : tie.Need-returns
 returns c = search rules
@@ -41,7 +41,7 @@ judge-proof-requires-2 c κs =
     let start = c.before.before.before.before.before.before.before.before.before.before.before in
     let a = start.args in
     let pre = start.requires in
-    (rules-ready a.d.now a.o a.told.now pre.3 pre.0 (clauses-filled a.d.now a.o _ c.before.before.before.before.starts.ensures pre.0.fewClauses) pre.1 pre.2 pre.4, pre.6, pre.7, pre.5, pre.6)
+    (rules_ready a.d.now a.o a.told.now pre.3 pre.0 (clauses_filled a.d.now a.o _ c.before.before.before.before.starts.ensures pre.0.few_clauses) pre.1 pre.2 pre.4, pre.6, pre.7, pre.5, pre.6)
 
 returns-2 : tie.Need-returns-2
 returns-2 c = search rules

@@ -2,9 +2,9 @@
 use mathlib.Core.Path.{refl}
 use borrow.Author.Rules.{rules}
 use Rattle.promise.specs.Thing.{ok_of}
-use Rattle.promise.proofs.Step.{signs-agree, signs-differ}
-use Rattle.verdict.proofs.Outcome.{secret-kept, secret-changed}
-use Rattle.verdict.proofs.Papers.{entry-ends}
+use Rattle.promise.proofs.Step.{signs_agree, signs_differ}
+use Rattle.verdict.proofs.Outcome.{secret_kept_lem, secret_changed}
+use Rattle.verdict.proofs.Papers.{entry_ends}
 use Rattle.verdict.proofs.judge_secret.Statement.{statement}
 use Rattle.verdict.proofs.judge_secret.Tie as tie
 
@@ -19,13 +19,13 @@ rounds-at-requires c κs = search rules
 
 refusing-requires : tie.Need-refusing-requires
 unfolding ok_of
-refusing-requires c κs = (c.before.before.before.before.before.before.before.before.before.before.requires.0.laid.secret.ends, entry-ends _ _)
+refusing-requires c κs = (c.before.before.before.before.before.before.before.before.before.before.requires.0.laid.secret.ends, entry_ends _ _)
 
 returns : tie.Need-returns
 returns c =
     let start = c.before.before.before.before.before.before.before in
     let a = start.args in
-    secret-changed a.d.now a.o a.w.now a.k c.before.before.answer_at.ensures start.requires.1 (signs-differ _ _ c.before.if1.true) c.accepting.ensures refl
+    secret_changed a.d.now a.o a.w.now a.k c.before.before.answer_at.ensures start.requires.1 (signs_differ _ _ c.before.if1.true) c.accepting.ensures refl
 
 same_length : tie.Need-same-length
 same_length c = search rules
@@ -34,7 +34,7 @@ returns-2 : tie.Need-returns-2
 returns-2 c =
     let start = c.before.before.before.before.before.before.before.before.before.before.before in
     let a = start.args in
-    secret-kept a.d.now a.o a.w.now a.k c.before.before.before.before.before.before.answer_at.ensures start.requires.1 (signs-agree _ _ c.before.before.before.before.before.if1.false) c.refusing.ensures c.before.before.before.rounds-at.ensures
+    secret_kept_lem a.d.now a.o a.w.now a.k c.before.before.before.before.before.before.answer_at.ensures start.requires.1 (signs_agree _ _ c.before.before.before.before.before.if1.false) c.refusing.ensures c.before.before.before.rounds-at.ensures
 
 pub judge-secret-spec : {M : Type 1} → statement M
 judge-secret-spec =

@@ -2,9 +2,9 @@
 use native.Mathlib.Omega.{arith}
 use borrow.Author.Rules.{rules, scaled_Fits}
 use Rattle.promise.specs.Thing.{ok_of}
-use Rattle.evaluation.proofs.Entry.{probe-fits}
-use Rattle.verdict.proofs.Outcome.{probe-below, witness-differs, witness-alike}
-use Rattle.verdict.proofs.Papers.{entry-ends}
+use Rattle.evaluation.proofs.Entry.{probe_fits}
+use Rattle.verdict.proofs.Outcome.{probe_below, witness_differs, witness_alike}
+use Rattle.verdict.proofs.Papers.{entry_ends}
 use Rattle.verdict.proofs.judge_witness.Statement.{statement}
 use Rattle.verdict.proofs.judge_witness.Tie as tie
 
@@ -18,22 +18,22 @@ mul-refusing : tie.Need-overflow-mul-refusing
 mul-refusing c =
     let start = c.before.before.before.before.before.before.before.before.before.before.before.before.before in
     let a = start.args in
-    let h = probe-below a.d.now a.o a.w.now a.k c.before.before.before.before.before.first-differing.ensures.0 c.before.j.given.1 in
+    let h = probe_below a.d.now a.o a.w.now a.k c.before.before.before.before.before.first-differing.ensures.0 c.before.j.given.1 in
     scaled_Fits _ 64 8 (omega (arith, start.requires.0.laid.few)) (omega arith)
 
 shared-slice-read-refusing : tie.Need-shared-slice-read-refusing
 shared-slice-read-refusing c =
     let start = c.before.before.before.before.before.before.before.before.before.before.before.before.before.before in
     let a = start.args in
-    omega (arith, start.requires.1.long, probe-below a.d.now a.o a.w.now a.k c.before.before.before.before.before.before.first-differing.ensures.0 c.before.before.j.given.1)
+    omega (arith, start.requires.1.long, probe_below a.d.now a.o a.w.now a.k c.before.before.before.before.before.before.first-differing.ensures.0 c.before.before.j.given.1)
 
 refusing-requires : tie.Need-refusing-requires
 unfolding ok_of
 refusing-requires c κs =
     let start = c.before.before.before.before.before.before.before.before.before.before.before.before.before.before in
     let a = start.args in
-    let h = probe-below a.d.now a.o a.w.now a.k c.before.before.before.before.before.before.first-differing.ensures.0 c.before.before.j.given.1 in
-    ((probe-fits a.d.now a.o a.probes.now start.requires.1 _ h start.requires.0.laid).ends, entry-ends _ _)
+    let h = probe_below a.d.now a.o a.w.now a.k c.before.before.before.before.before.before.first-differing.ensures.0 c.before.before.j.given.1 in
+    ((probe_fits a.d.now a.o a.probes.now start.requires.1 _ h start.requires.0.laid).ends, entry_ends _ _)
 
 enum_told : tie.Need-enum-told
 enum_told c = search rules
@@ -48,7 +48,7 @@ returns : tie.Need-returns
 returns c =
     let start = c.before.before.before.before.before.before.before.before.before.before.before.before.before.before.before in
     let a = start.args in
-    witness-differs a.d.now a.o a.w.now a.k c.before.before.before.before.before.before.before.first-differing.ensures.0 a.probes.now start.requires.1 c.before.before.before.j.given.1 c.refusing.ensures c.before.before.before.before.before.before.before.first-differing.ensures.1
+    witness_differs a.d.now a.o a.w.now a.k c.before.before.before.before.before.before.before.first-differing.ensures.0 a.probes.now start.requires.1 c.before.before.before.j.given.1 c.refusing.ensures c.before.before.before.before.before.before.before.first-differing.ensures.1
 
 same-length-2 : tie.Need-same-length-2
 same-length-2 c = search rules
@@ -56,7 +56,7 @@ same-length-2 c = search rules
 returns-2 : tie.Need-returns-2
 returns-2 c =
     let a = c.before.before.before.before.before.before.before.before.before.before.before.before.before.before.before.before.args in
-    witness-alike a.d.now a.o a.w.now a.k c.before.before.before.before.before.before.before.before.first-differing.ensures.0 a.probes.now c.before.before.before.before.enum_told.given.1 c.before.before.before.before.before.before.before.before.first-differing.ensures.1 c.before.before.judge-secret.ensures
+    witness_alike a.d.now a.o a.w.now a.k c.before.before.before.before.before.before.before.before.first-differing.ensures.0 a.probes.now c.before.before.before.before.enum_told.given.1 c.before.before.before.before.before.before.before.before.first-differing.ensures.1 c.before.before.judge-secret.ensures
 
 pub judge-witness-spec : {M : Type 1} → statement M
 judge-witness-spec =

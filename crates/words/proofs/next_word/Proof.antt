@@ -1,7 +1,7 @@
 -- `words::next_word` meets its contract: at each `return` the tests that led there say which case of `next` holds.
 use native.Mathlib.Omega.{arith}
 use mathlib.Core.Path.{sym, ◌∙◌}
-use Rattle.words.proofs.Steps.{next_past, next-range, next-order, next-on}
+use Rattle.words.proofs.Steps.{next_past, next_range, next_order, next_on}
 use borrow.Author.Rules.{rules}
 use Rattle.words.proofs.next_word.Statement.{statement}
 use Rattle.words.proofs.next_word.Tie as tie
@@ -28,19 +28,19 @@ enum-known-e : tie.Need-enum-known-e
 enum-known-e c = search rules
 
 returns-2 : tie.Need-returns-2
-returns-2 c = sym (next-range _ _ _ _ c.before.before.before.before.before.if1.false c.before.before.before.in-range.ensures c.before.e.given.1)
+returns-2 c = sym (next_range _ _ _ _ c.before.before.before.before.before.if1.false c.before.before.before.in-range.ensures c.before.e.given.1)
 
 enum_told : tie.Need-enum-told
 enum_told c = search rules
 
 returns-3 : tie.Need-returns-3
-returns-3 c = sym (next-order _ _ _ _ c.before.before.before.before.before.if1.false c.before.before.before.in-range.ensures c.before.enum_told.given.1 c.if2.true)
+returns-3 c = sym (next_order _ _ _ _ c.before.before.before.before.before.if1.false c.before.before.before.in-range.ensures c.before.enum_told.given.1 c.if2.true)
 
 add-t7 : tie.Need-overflow-add-t7
 add-t7 c = omega (arith, c.before.before.before.before.before.before.shared-slice-known.given c.before.before.before.before.before.before.before.args.p)
 
 returns-4 : tie.Need-returns-4
-returns-4 c = sym (next-on _ _ _ _ c.before.before.before.before.before.if1.false c.before.before.before.in-range.ensures c.before.enum_told.given.1 c.if2.false)
+returns-4 c = sym (next_on _ _ _ _ c.before.before.before.before.before.if1.false c.before.before.before.in-range.ensures c.before.enum_told.given.1 c.if2.false)
 
 pub next-word-spec : {M : Type 1} → statement M
 next-word-spec =

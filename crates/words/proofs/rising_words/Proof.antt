@@ -3,13 +3,13 @@ use borrow.Author.Rules.{rules}
 use native.Mathlib.Omega.{arith}
 use mathlib.Core.Path.{◌≡◌, refl, sym, ◌∙◌}
 use Rattle.words.specs.Read.{rising}
-use Rattle.words.specs.Answer.{asStep}
-use Rattle.words.proofs.Steps.{next_here, rising_none, rising-stop, rising-on}
+use Rattle.words.specs.Answer.{as_step}
+use Rattle.words.proofs.Steps.{next_here, rising_none, rising_stop, rising_on}
 use Rattle.words.proofs.rising_words.Statement.{statement}
 use Rattle.words.proofs.rising_words.Tie as tie
 
 abbrev invariant-loop : tie.invariant-loop
-invariant-loop s at k range left₀ low₀ p₀ left low p = asStep (rising range 0 k s at) ≡ asStep (rising range low left s p)
+invariant-loop s at k range left₀ low₀ p₀ left low p = as_step (rising range 0 k s at) ≡ as_step (rising range low left s p)
 
 abbrev decreases-loop : tie.decreases-loop
 decreases-loop s at k range left₀ low₀ p₀ left low p = left
@@ -24,7 +24,7 @@ enum-known-e : tie.Need-enum-known-e invariant-loop decreases-loop
 enum-known-e c = search rules
 
 returns : tie.Need-returns invariant-loop decreases-loop
-returns c = sym (c.before.before.before.before.before.loop.invariant ∙ rising-stop _ _ _ _ _ c.before.before.before.before.loop-test.true c.before.before.before.next_word.ensures c.before.e.given.1)
+returns c = sym (c.before.before.before.before.before.loop.invariant ∙ rising_stop _ _ _ _ _ c.before.before.before.before.loop-test.true c.before.before.before.next_word.ensures c.before.e.given.1)
 
 enum-known-x : tie.Need-enum-known-x invariant-loop decreases-loop
 enum-known-x c = search rules
@@ -39,7 +39,7 @@ loop-less : tie.Need-loop-smaller invariant-loop decreases-loop
 loop-less c = search rules
 
 loop-again : tie.Need-loop-preserved invariant-loop decreases-loop
-loop-again c = c.before.before.before.before.before.loop.invariant ∙ rising-on _ _ _ _ _ c.before.before.before.before.loop-test.true c.before.before.before.next_word.ensures c.before.x.given.1
+loop-again c = c.before.before.before.before.before.loop.invariant ∙ rising_on _ _ _ _ _ c.before.before.before.before.loop-test.true c.before.before.before.next_word.ensures c.before.x.given.1
 
 returns-2 : tie.Need-returns-2 invariant-loop decreases-loop
 returns-2 c = sym (c.before.loop.invariant ∙ rising_none _ _ _ _ _ c.loop-test.false)
