@@ -1,4 +1,5 @@
 // Reads the certificate: sound, with what it proposes, or the refusal.
+#![tactic(auto)]
 ghost use Rattle.std.specs.Prelude.{◌≡◌, ◌+◌, ◌≤◌, length};
 ghost use mathlib.Core.List as list;
 ghost use Rattle.words.specs.Out.{word, after};
@@ -15,7 +16,7 @@ use promise::{LiteralAt, Proposal};
 use words::{Got, Range, Step};
 
 // What a sound certificate proposes; or the refusal: its number, its place, and how many words it shows.
-#[derive(Drop)]
+#[derive(Clone, Copy)]
 pub enum Form {
     Sound(Proposal),
     Refused(u16, usize, usize),

@@ -1,0 +1,1 @@
+#![tactic(auto)]

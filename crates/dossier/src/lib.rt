@@ -1,4 +1,5 @@
 // Reads the dossier: sound, with where each section stands, or the refusal.
+#![tactic(auto)]
 ghost use Rattle.std.specs.Prelude.{◌≡◌, ◌≤◌, length};
 ghost use Rattle.words.specs.Answer.{as_step};
 ghost use Rattle.dossier.specs.Read as read;
@@ -9,7 +10,7 @@ use promise::Layout;
 use words::{Got, Range, Step};
 
 // What a section is made of.
-#[derive(Drop)]
+#[derive(Clone, Copy)]
 pub enum Item {
     Clause,
     Credential,
@@ -17,14 +18,14 @@ pub enum Item {
 }
 
 // How many things a section has, and the place after it; or the refusal.
-#[derive(Drop)]
+#[derive(Clone, Copy)]
 pub enum Section {
     Counted(usize, usize),
     Refused(u16, usize, usize),
 }
 
 // Where the sections of a sound dossier stand; or the refusal: its number, its place, and how many words it shows.
-#[derive(Drop)]
+#[derive(Clone, Copy)]
 pub enum Form {
     Sound(Layout),
     Refused(u16, usize, usize),

@@ -43,18 +43,18 @@ module _ (r : ℕ) (t : List ℕ) (a : ℕ) {x : Bool} (e : x ≡ has t a) where
 
 -- the head and the body were tested: the head is put in, or not
 module _ (r h : ℕ) (body t : List ℕ) {x : Bool} (e : x ≡ has t h) where
-  pub fire_there : not x ≡ false → t ≡ fire_one r (record { head = h; body = body }) t
+  pub fire_there : x ≡ true → t ≡ fire_one r (record { head = h; body = body }) t
   unfolding fire_one choose ◌and◌
-  fire_there n = rw (ap not (sym e) ∙ n)
+  fire_there n = rw (sym e ∙ n)
 
   module _ {y : Bool} (f : y ≡ all (before r t) body) where
-    pub fire_yes : not x ≡ true → y ≡ true → set t h r ≡ fire_one r (record { head = h; body = body }) t
+    pub fire_yes : x ≡ false → y ≡ true → set t h r ≡ fire_one r (record { head = h; body = body }) t
     unfolding fire_one choose ◌and◌
-    fire_yes n m = rw (ap not (sym e) ∙ n, sym f ∙ m)
+    fire_yes n m = rw (sym e ∙ n, sym f ∙ m)
 
-    pub fire_no : not x ≡ true → y ≡ false → t ≡ fire_one r (record { head = h; body = body }) t
+    pub fire_no : x ≡ false → y ≡ false → t ≡ fire_one r (record { head = h; body = body }) t
     unfolding fire_one choose ◌and◌
-    fire_no n m = rw (ap not (sym e) ∙ n, sym f ∙ m)
+    fire_no n m = rw (sym e ∙ n, sym f ∙ m)
 
 pub fire_length : (r : ℕ) (c : Clause) (t : List ℕ) → length (fire_one r c t) ≡ length t
 unfolding fire_one choose

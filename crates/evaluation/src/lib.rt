@@ -1,4 +1,5 @@
 // What a policy makes true, on the clauses held as words, and an entry's answer in it.
+#![tactic(auto)]
 ghost use Rattle.std.specs.Prelude.{◌≡◌, true, not, ◌++◌, ℕ, ◌+◌, ◌≤◌, ◌<◌, length, drop, replicate};
 ghost use Rattle.meaning.specs.Tests.{◌∈◌, ◌and◌, ◌or◌, ◌is◌, same, all, any, choose};
 ghost use Rattle.meaning.specs.Policy.{first_round};
@@ -18,7 +19,7 @@ ghost use Rattle.evaluation.specs.declared.Which.TheVariants.{Own};
 use promise::{ClauseAt, EntryAt, Layout};
 
 // The policy that is evaluated: the dossier's own, or its visible clauses with the certificate's so many.
-#[derive(Drop)]
+#[derive(Clone, Copy)]
 pub enum Which {
     Own,
     Tried(usize),
@@ -264,7 +265,7 @@ fn joined(x: usize, a: bool, b: bool) -> bool
 }
 
 // A truth, and the place after the formula.
-#[derive(Drop)]
+#[derive(Clone, Copy)]
 pub struct Truth {
     pub holds: bool,
     pub next: usize,

@@ -1,4 +1,5 @@
 // The program judge: reads the papers from standard input and prints the line of the reply.
+#![tactic(auto)]
 ghost use Rattle.std.specs.Prelude.{◌≡◌, length, ◌+◌, ◌≤◌};
 
 use libc::{STDIN_FILENO, STDOUT_FILENO};

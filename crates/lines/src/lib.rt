@@ -1,5 +1,6 @@
 // When a line follows: rules 1 to 8, on the words of a sound dossier and of a sound certificate.
 // Throughout, d are the dossier's words and o their layout, s the certificate's words, v is the line in question.
+#![tactic(auto)]
 ghost use Rattle.std.specs.Prelude.{◌≡◌, List, not, ℕ, ◌+◌, ◌-◌, ◌≤◌, ◌<◌, length};
 ghost use Rattle.std.proofs.Math.Option.{some};
 ghost use Rattle.meaning.specs.Tests.{◌and◌, ◌or◌, ◌is◌, agree, same, all, choose, mem, at, named};
@@ -25,14 +26,14 @@ use promise::{
 // ---- what a data word names
 
 // Where a thing begins, if there is one.
-#[derive(Drop)]
+#[derive(Clone, Copy)]
 enum Found {
     At(usize),
     Nothing,
 }
 
 // A literal of a line, if there is one.
-#[derive(Drop)]
+#[derive(Clone, Copy)]
 enum LiteralFound {
     Is(LiteralAt),
     Nothing,
@@ -64,7 +65,7 @@ fn literal_nth(s: &[u16], v: LineAt, j: usize) -> LiteralFound
 // ---- lists of numbers
 
 // How many numbers of a list a number takes; or that it does not fit.
-#[derive(Drop)]
+#[derive(Clone, Copy)]
 enum Taken {
     Words(usize),
     Misfit,
@@ -323,7 +324,7 @@ fn credentials_covered(
 // ---- the value of a formula when each literal is false
 
 // True, false or unknown.
-#[derive(Drop)]
+#[derive(Clone, Copy)]
 enum Tri {
     No,
     Yes,
@@ -331,7 +332,7 @@ enum Tri {
 }
 
 // A value, and the place after the formula.
-#[derive(Drop)]
+#[derive(Clone, Copy)]
 struct ValueAt {
     value: Tri,
     next: usize,

@@ -114,11 +114,13 @@ module _ (X Y : ℕ → Bool) (f : (a : ℕ) → In X a → In Y a) where
 
   count_more : (U : List ℕ) {u : ℕ} → u ∈ U → X u ≡ false → Y u ≡ true → count X U < count Y U
   unfolding count bump
+  count_more [] m p q = elim m [ ]
   count_more (v ∷ U) (Memᴰ.head e) p q = let h = count_mono U in rw (← e) (rw (p, q) (omega arith))
   count_more (v ∷ U) (Memᴰ.tail m) p q = rw (← (bump_suc (X v) (count X U))) (bump_mono (X v) (Y v) (suc (count X U)) (count Y U) (f v) (count_more U m p q))
 
 count_full : (X : ℕ → Bool) (U : List ℕ) {u : ℕ} → length U ≤ count X U → u ∈ U → X u ≡ true
 unfolding count
+count_full X [] h m = elim m [ ]
 count_full X (v ∷ U) h (Memᴰ.head e) = rw e (bump_full (X v) (length U) (count X U) h (count_le X U))
 count_full X (v ∷ U) h (Memᴰ.tail m) = let k = bump_le (X v) (count X U) in count_full X U (omega arith) m
 

@@ -99,6 +99,7 @@ omit_is c {S} {i} = (
 
 others_at : {A : Type 0} (l : List A) (i : ℕ) {x p : A} → at l i ≡ some p → x ∈ l → (x ≡ p) ⊎ x ∈ others l i
 unfolding at others
+others_at [] i h m = elim m [ ]
 others_at (y ∷ l) zero h (Memᴰ.head e) = inl (cc)
 others_at (y ∷ l) zero h (Memᴰ.tail m) = inr m
 others_at (y ∷ l) (suc i) h (Memᴰ.head e) = inr (Memᴰ.head e)

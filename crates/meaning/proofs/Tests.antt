@@ -117,7 +117,7 @@ same_refl (x ∷ l) = and_of (is_refl x) (same_refl l)
 -- ---- elements
 
 module _ {A : Type 0} where
-  pub all_at : (p : A → Bool) (l : List A) → all p l ≡ true → {x : A} → x ∈ l → p x ≡ true
+  pub all_at : (p : A → Bool) {x : A} (l : List A) → all p l ≡ true → x ∈ l → p x ≡ true
   unfolding all
   all_at p l h (Memᴰ.head e) = ap p e ∙ (and_both h).0
   all_at p l h (Memᴰ.tail {xs = r} m) = all_at p r (and_both h).1 m
@@ -136,7 +136,7 @@ module _ {A : Type 0} where
       go (inl e) ih = (x, Memᴰ.head refl, e)
       go (inr e) ih = let r = ih e in (r.0, Memᴰ.tail r.1, r.2)
 
-  pub any_of : (p : A → Bool) {l : List A} {x : A} → x ∈ l → p x ≡ true → any p l ≡ true
+  pub any_of : (p : A → Bool) {x : A} {l : List A} → x ∈ l → p x ≡ true → any p l ≡ true
   unfolding any
   any_of p (Memᴰ.head e) h = or_left _ (ap p (sym e) ∙ h)
   any_of p (Memᴰ.tail m) h = or_right _ (any_of p m h)
@@ -154,7 +154,7 @@ module _ {A : Type 0} where
   put_there true x m = Memᴰ.tail m
   put_there false x m = m
 
-  pub keep_of : (p : A → Bool) {l : List A} {x : A} → x ∈ l → p x ≡ true → x ∈ keep p l
+  pub keep_of : (p : A → Bool) {x : A} {l : List A} → x ∈ l → p x ≡ true → x ∈ keep p l
   unfolding keep put
   keep_of p {x} (Memᴰ.head {x = y} e) h = rw (ap p (sym e) ∙ h) (Memᴰ.head e)
   keep_of p (Memᴰ.tail {x = y} m) h = put_there (p y) y (keep_of p m h)
@@ -190,7 +190,7 @@ module _ {A : Type 0} where
   at_mem (y ∷ l) zero h = Memᴰ.head {x = y} (cc)
   at_mem (y ∷ l) (suc i) h = Memᴰ.tail (at_mem l i h)
 
-  pub mem_index : {l : List A} {x : A} → x ∈ l → (i : ℕ) × (i < length l) × (at l i ≡ some x)
+  pub mem_index : {x : A} {l : List A} → x ∈ l → (i : ℕ) × (i < length l) × (at l i ≡ some x)
   unfolding at
   mem_index (Memᴰ.head e) = (0, omega arith, ap {B = Option A} some (sym e))
   mem_index (Memᴰ.tail m) = let r = mem_index m in (suc r.0, omega (arith, r.1), r.2)
@@ -221,7 +221,7 @@ module _ {A : Type 0} where
   at_take (suc k) (y ∷ l) (suc i) h = let r = at_take k l i h in (omega (arith, r.0), r.1)
 
 module _ {A B : Type 0} (f : A → B) where
-  pub map_of : {l : List A} {x : A} → x ∈ l → f x ∈ map f l
+  pub map_of : {x : A} {l : List A} → x ∈ l → f x ∈ map f l
   map_of (Memᴰ.head e) = Memᴰ.head (ap f e)
   map_of (Memᴰ.tail m) = Memᴰ.tail (map_of m)
 

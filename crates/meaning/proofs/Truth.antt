@@ -88,6 +88,7 @@ chosen_at cs (i ∷ S) {d} m = go (at cs i) refl m (λ k. chosen_at cs S k)
 
 chosen_of : (cs : List Clause) (S : List ℕ) {d : Clause} {i : ℕ} → i ∈ S → at cs i ≡ some d → d ∈ chosen cs S
 unfolding chosen pick
+chosen_of cs [] m h = elim m [ ]
 chosen_of cs (j ∷ S) (Memᴰ.head e) h = rw (← e) (rw h (Memᴰ.head refl))
 chosen_of cs (j ∷ S) {d} (Memᴰ.tail m) h = there (at cs j) (chosen_of cs S m h)
   where

@@ -1,4 +1,5 @@
 // What lies at a place of a sound paper: the reader's promise to the layers above, which never add up places themselves.
+#![tactic(auto)]
 ghost use Rattle.std.specs.Prelude.{◌≡◌, ◌+◌, ◌≤◌, ◌<◌, length, get_or};
 ghost use Rattle.meaning.specs.Tests.{same};
 ghost use Rattle.meaning.specs.Rules.{same_statement};
@@ -9,7 +10,7 @@ ghost use Rattle.promise.specs.Formula.{entry_at};
 ghost use Rattle.promise.specs.Line.{literal_at, said_of, Held, data_count, line_at, literal};
 
 // A clause: its head, where its body stands and how many atoms it has, and the place after it.
-#[derive(Drop)]
+#[derive(Clone, Copy)]
 pub struct ClauseAt {
     pub head: usize,
     pub body: usize,
@@ -18,14 +19,14 @@ pub struct ClauseAt {
 }
 
 // A clause of the dossier, with its mark.
-#[derive(Drop)]
+#[derive(Clone, Copy)]
 pub struct MarkedAt {
     pub visible: bool,
     pub clause: ClauseAt,
 }
 
 // A probe or the secret: where its credentials stand and how many, where its formula stands, and the place after it.
-#[derive(Drop)]
+#[derive(Clone, Copy)]
 pub struct EntryAt {
     pub creds: usize,
     pub count: usize,
@@ -34,7 +35,7 @@ pub struct EntryAt {
 }
 
 // A literal: its sign, its two lists, its atom, and the place after it.
-#[derive(Drop)]
+#[derive(Clone, Copy)]
 pub struct LiteralAt {
     pub positive: bool,
     pub creds: usize,
@@ -46,7 +47,7 @@ pub struct LiteralAt {
 }
 
 // A line: its rule's number, where its data words stand, where its literals stand and how many.
-#[derive(Drop)]
+#[derive(Clone, Copy)]
 pub struct LineAt {
     pub rule: usize,
     pub args: usize,
@@ -55,7 +56,7 @@ pub struct LineAt {
 }
 
 // The dossier's number of atoms; where the first thing of each section stands, and how many it has; where the secret stands.
-#[derive(Drop)]
+#[derive(Clone, Copy)]
 pub struct Layout {
     pub atoms: usize,
     pub clauses: usize,
@@ -68,14 +69,14 @@ pub struct Layout {
 }
 
 // What a certificate proposes, and how many clauses or lines it has; the first stands at place 2.
-#[derive(Drop)]
+#[derive(Clone, Copy)]
 pub enum Proposal {
     Witness(usize),
     Proof(usize),
 }
 
 // A thing of one of the sections.
-#[derive(Drop)]
+#[derive(Clone, Copy)]
 pub enum Thing {
     Clause,
     Credential,

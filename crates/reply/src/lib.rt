@@ -1,15 +1,16 @@
 // What the judge answers, and the part of a paper that an answer shows.
+#![tactic(auto)]
 ghost use Rattle.std.specs.Prelude.{◌≡◌};
 ghost use Rattle.reply.specs.Part.{part_of, part_at};
 ghost use Rattle.reply.specs.Shown.{shown_of, shown_at};
 
-#[derive(Drop)]
+#[derive(Clone, Copy)]
 pub enum Paper {
     Dossier,
     Certificate,
 }
 
-#[derive(Drop)]
+#[derive(Clone, Copy)]
 pub enum Verdict {
     Opaque,
     Detectable,
@@ -17,7 +18,7 @@ pub enum Verdict {
 }
 
 // The verdict, beside the paper's name, a place in it, and a count of words.
-#[derive(Drop)]
+#[derive(Clone, Copy)]
 pub struct Reply {
     pub verdict: Verdict,
     pub paper: Paper,
@@ -26,7 +27,7 @@ pub struct Reply {
 }
 
 // What an entry that writes into a lent table answers: how many words (or bytes) it has written, or its refusal, a reply whose words `shown` shows.
-#[derive(Drop)]
+#[derive(Clone, Copy)]
 pub enum Written {
     Count(usize),
     Refused(Reply),

@@ -1,4 +1,5 @@
 // What the programs read and write: bytes as words, and a reply as its line of text.
+#![tactic(auto)]
 ghost use Rattle.std.specs.Prelude.{◌≡◌, ◌+◌, ◌*◌, ◌/◌, ◌≤◌, ◌<◌, min, length};
 ghost use Rattle.promise.specs.Place.{filled};
 ghost use Rattle.text.specs.Bytes.{word_at, whole, input_of};
@@ -7,7 +8,7 @@ ghost use Rattle.text.specs.Line.{put, digits_of, name_of, refusal_of, reply_tex
 use reply::{Paper, Reply, Verdict};
 
 // What standard input holds: papers, so many words of the dossier and of the certificate; or nothing that can be judged.
-#[derive(Drop)]
+#[derive(Clone, Copy)]
 pub enum Input {
     Bad,
     Papers(usize, usize),

@@ -1,4 +1,5 @@
 // The program trial: reads cases from standard input until its end, and prints a line for each.
+#![tactic(auto)]
 ghost use Rattle.std.specs.Prelude.{◌≡◌, ◌+◌, ◌*◌, ◌≤◌, length, replicate};
 ghost use Rattle.promise.specs.Place.{part};
 ghost use Rattle.text.specs.Line.{put};
@@ -13,7 +14,7 @@ use reply::Paper;
 // many of the table and of the dossier; the line of shown words, by paper, place and count, for so many words of the dossier
 // and of the certificate; the line for so many bytes of standard input; the judge's line and its table, by what the table is filled with,
 // for so many words of it, of the dossier and of the certificate. Or it is no case.
-#[derive(Drop)]
+#[derive(Clone, Copy)]
 enum Case {
     Bad,
     Judge(usize, usize),
@@ -24,7 +25,7 @@ enum Case {
 }
 
 // How many words two papers have, or a table and a paper; or they are above the limit, 32,767 together.
-#[derive(Drop)]
+#[derive(Clone, Copy)]
 enum Sizes {
     Over,
     Both(usize, usize),

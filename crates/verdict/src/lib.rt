@@ -1,4 +1,5 @@
 // The judgement of two sound papers.
+#![tactic(auto)]
 ghost use Rattle.std.specs.Prelude.{◌≡◌, not, ◌≤◌, ◌<◌, ◌-◌, length, get_or};
 ghost use Rattle.meaning.specs.Tests.{◌is◌, agree, choose, lowest};
 ghost use Rattle.meaning.specs.Looks.{aim};
@@ -28,7 +29,7 @@ use promise::{Layout, Proposal, Thing};
 use reply::{Paper, Reply, Verdict};
 
 // The lowest number at fault, if there is one.
-#[derive(Drop)]
+#[derive(Clone, Copy)]
 pub enum Fault {
     Nowhere,
     At(usize),

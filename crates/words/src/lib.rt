@@ -1,25 +1,26 @@
 // Words, and rising lists of them, read at a position: what every reader of a paper shares.
+#![tactic(auto)]
 ghost use Rattle.std.specs.Prelude.{◌≡◌, length};
 ghost use Rattle.words.specs.Read.{ranged, next, rising, listed};
 ghost use Rattle.words.specs.Answer.{as_step, as_got, as_low, tested};
 ghost use Rattle.words.specs.declared.Got.TheVariants.{Stop};
 
 // The next position, or the refusal: its number, its place, and how many words it shows.
-#[derive(Drop)]
+#[derive(Clone, Copy)]
 pub enum Step {
     Next(usize),
     Refused(u16, usize, usize),
 }
 
 // A word that was read, or the refusal.
-#[derive(Drop)]
+#[derive(Clone, Copy)]
 pub enum Got {
     Word(usize),
     Stop(u16, usize, usize),
 }
 
 // What the words of a list may be: any, or those below a limit, with the refusal's number for the others.
-#[derive(Drop)]
+#[derive(Clone, Copy)]
 pub enum Range {
     Any,
     Below(usize, u16),
@@ -50,7 +51,7 @@ pub fn word_in(s: &[u16], at: usize, lo: usize, hi: usize, e: u16) -> Got
 }
 
 // Whether a word lies in the range, and if not, the refusal's number.
-#[derive(Drop)]
+#[derive(Clone, Copy)]
 enum Tested {
     Inside,
     Outside(u16),

@@ -1,0 +1,21 @@
+-- `certificate::literals_at` meets its contract. The invariant: the literals read so far are those seen from the start, and the rest answers as all do.
+use Prim.Native.Nat.{◌-◌}
+use mathlib.Core.Path.{sym}
+use borrow.Author.Rules.{rules}
+use Rattle.certificate.proofs.Several.{State, state_first, state_none, state_bad, state_on}
+use Rattle.certificate.proofs.literals_at.Goals as goal
+
+pub loop-done-init : goal.loop-done-init
+loop-done-init c = state_first
+
+pub next_literal-requires : goal.next_literal-requires
+next_literal-requires c = c.loop-done.invariant.fit
+
+pub returns-in-Refused : goal.returns-in-Refused
+returns-in-Refused c = sym (state_bad c.loop-done.invariant c.loop-done-test.true c.next_literal.ensures c.in-Refused.is)
+
+pub loop-done-preserved : goal.loop-done-preserved
+loop-done-preserved c = state_on c.loop-done.invariant c.loop-done-test.true c.next_literal.ensures c.in-Next.is
+
+pub returns : goal.returns
+returns c = sym (state_none c.loop-done.invariant c.loop-done-test.false)

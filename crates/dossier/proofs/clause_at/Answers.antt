@@ -1,0 +1,18 @@
+-- `dossier::clause_at` meets its contract: the head is refused or read, and the body answers for the rest.
+use Rattle.dossier.specs.Read.{clause}
+use Rattle.words.proofs.Steps.{stopped, read_word, step_made}
+use Rattle.words.specs.Answer.{as_step}
+use borrow.Author.Rules.{rules}
+use native.Mathlib.Omega.{arith}
+use Rattle.dossier.proofs.clause_at.Goals as goal
+
+pub overflow_add-at : goal.overflow_add-at
+overflow_add-at c = omega (arith, (read_word _ _ _ _ _ c.word_in.ensures c.in-Word.is).here)
+
+pub returns-in-Stop : goal.returns-in-Stop
+unfolding clause as_step
+returns-in-Stop c = simp (stopped _ c.word_in.ensures c.in-Stop.is)
+
+pub returns-in-Word : goal.returns-in-Word
+unfolding clause
+returns-in-Word c = simp ((read_word _ _ _ _ _ c.word_in.ensures c.in-Word.is).is, step_made) c.list_at.ensures

@@ -1,0 +1,12 @@
+-- `dossier::items_from` meets its contract. The invariant: the items left to read from p on answer as all of them do.
+use Rattle.dossier.proofs.Sections.{items_none, items_bad, items_on}
+use Rattle.dossier.specs.Found.{items_step}
+use borrow.Author.Rules.{rules}
+use mathlib.Core.Path.{◌≡◌, refl, sym, ◌∙◌}
+use Rattle.dossier.proofs.items_from.Given as goal
+
+abbrev pub invariant-loop-left : goal.invariant-loop-left
+invariant-loop-left l = items_step l.item l.n l.m l.k l.s l.at ≡ items_step l.item l.n l.m l.left l.s l.p
+
+abbrev pub decreases-loop-left : goal.decreases-loop-left
+decreases-loop-left l = l.left

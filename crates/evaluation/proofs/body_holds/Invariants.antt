@@ -1,0 +1,18 @@
+-- `evaluation::body_holds` meets its contract. The invariant: what is left of the body answers as the whole does.
+use Prim.Native.Nat.{ℕ, ◌+◌, ◌≤◌, ◌<◌}
+use Rattle.evaluation.specs.Table.{before}
+use Rattle.meaning.specs.Tests.{◌∈◌, all}
+use Rattle.promise.proofs.Place.{part_none, part_cons, part_first, part_later}
+use Rattle.promise.proofs.Step.{all_none, all_on, all_not}
+use Rattle.promise.specs.Place.{part}
+use borrow.Author.Rules.{rules}
+use borrow.Author.Tests.{not-true, not-false}
+use lib.ListN.{length}
+use mathlib.Core.Path.{◌≡◌, refl, sym, ap, ◌∙◌}
+use Rattle.evaluation.proofs.body_holds.Given as goal
+
+abbrev pub invariant-loop-left : goal.invariant-loop-left
+invariant-loop-left l = (l.at + l.left ≤ length l.s) × ((x : ℕ) → x ∈ part l.s l.at l.left → x < length l.table) × (all (before l.round l.table) (part l.s l.p l.k) ≡ all (before l.round l.table) (part l.s l.at l.left))
+
+abbrev pub decreases-loop-left : goal.decreases-loop-left
+decreases-loop-left l = l.left

@@ -1,0 +1,17 @@
+-- `lines::supposed_at` meets its contract. The invariant: the literals that are left give the statement its value.
+use mathlib.Core.Path.{◌∙◌, ◌≡◌, ap, refl, sym}
+use Rattle.meaning.specs.Rules.{supposed}
+use Rattle.promise.proofs.Place.{fit_first, many_none}
+use Rattle.promise.specs.Line.{literal, said_of}
+use Rattle.promise.specs.Place.{Fit, many}
+use Rattle.lines.specs.Tri.{tri_of}
+use Rattle.lines.proofs.Names.{literals_fit, literals_on}
+use Rattle.lines.proofs.Value.{supposed_is, supposed_none, supposed_on}
+use borrow.Author.Rules.{rules}
+use Rattle.lines.proofs.supposed_at.Given as goal
+
+abbrev pub invariant-loop-left : goal.invariant-loop-left
+invariant-loop-left l = Fit literal l.s l.at l.left × (supposed (many literal l.s l.initial.at l.initial.left) (said_of l.t l.l) ≡ supposed (many literal l.s l.at l.left) (said_of l.t l.l))
+
+abbrev pub decreases-loop-left : goal.decreases-loop-left
+decreases-loop-left l = l.left

@@ -1,0 +1,16 @@
+-- `promise::starts` meets its contract. The invariant: `at` is where thing i begins, and the table has where each before it does.
+use Prim.Native.Nat.{ℕ, ◌≤◌, ◌-◌}
+use mathlib.Core.Path.{◌≡◌, refl, ap, ◌∙◌}
+use native.Mathlib.Omega.{arith}
+use borrow.Author.Rules.{rules}
+use lib.ListN.{length}
+use Rattle.promise.specs.Place.{place, filled}
+use Rattle.promise.specs.Thing.{next_of, FitOf}
+use Rattle.promise.proofs.Place.{place_on, filled_none, filled_on, filled_length}
+use Rattle.promise.proofs.starts.Given as goal
+
+abbrev pub invariant-loop-i : goal.invariant-loop-i
+invariant-loop-i l = (l.i ≤ l.k) × (l.at ≡ place (next_of l.thing l.s) l.p l.i) × (l.table ≡ filled (place (next_of l.thing l.s) l.p) l.i l.initial.table)
+
+abbrev pub decreases-loop-i : goal.decreases-loop-i
+decreases-loop-i l = l.k - l.i
