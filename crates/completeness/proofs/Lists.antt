@@ -14,7 +14,7 @@ use Rattle.meaning.proofs.Tests.{is_refl, any_of, map_of, map_at}
 use Rattle.completeness.specs.Form.{Pairwise, Rising}
 
 module _ {A B : Type 0} (f : A → List B) where
-  pub flat_map_of : {l : List A} {x : A} {y : B} → x ∈ l → y ∈ f x → y ∈ flat_map f l
+  pub flat_map_of : {x : A} {l : List A} {y : B} → x ∈ l → y ∈ f x → y ∈ flat_map f l
   unfolding flat_map
   flat_map_of (Memᴰ.head {x = z} {xs = r} e) m = Memᴰ.append_left {s = f z} (flat_map f r) (rw (← e) m)
   flat_map_of (Memᴰ.tail {x = z} n) m = Memᴰ.append_right (f z) (flat_map_of n m)

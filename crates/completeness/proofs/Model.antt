@@ -87,13 +87,13 @@ module _ (D : Dossier) (wf : WellFormed D) (val : List ℕ → ℕ → Bool) (ob
   -- what the policy gives is true
   model_up : {S : List ℕ} → Part D S → (a : ℕ) → given D.creds model S [] a ≡ true → val S a ≡ true
   unfolding given ClosedIn model tried
-  model_up {S} p a h = holds_least (In (val S)) (joined D.creds model S []) (joined_closed D.creds model S [] (In (val S)) closed (obeys.creds-closed S p) (λ x m. absurd (Memᴰ.not-nil m))) a h
+  model_up {S} p a h = holds_least (In (val S)) (joined D.creds model S []) (joined_closed D.creds model S [] (In (val S)) closed (obeys.creds_closed S p) (λ x m. absurd (Memᴰ.not-nil m))) a h
     where
       closed : ClosedIn (In (val S)) model
-      closed c m f = ⊎_elim mine (λ n. obeys.visible-closed S p c n f) (Memᴰ.append_cases own m)
+      closed c m f = ⊎_elim mine (λ n. obeys.visible_closed S p c n f) (Memᴰ.append_cases own m)
         where
           mine : c ∈ own → val S c.head ≡ true
-          mine n = let (R, b, r, hb, v, q) = own_at n in rw q (obeys.heads-enough R S b r p hb v (λ i d k ed. f d.head (rw q (heads_of k ed))))
+          mine n = let (R, b, r, hb, v, q) = own_at n in rw q (obeys.heads_enough R S b r p hb v (λ i d k ed. f d.head (rw q (heads_of k ed))))
 
   -- more credentials give more
   model_more : {R S : List ℕ} → ((i : ℕ) → i ∈ R → i ∈ S) → (a : ℕ) → given D.creds model R [] a ≡ true → given D.creds model S [] a ≡ true
@@ -127,7 +127,7 @@ module _ (D : Dossier) (wf : WellFormed D) (val : List ℕ → ℕ → Bool) (ob
           let (c, m, w) = not_all fired S t in
           let (d, ed) = part_cred D wf p m in
           let (b, mb, f) = not_all (val (omit c S)) d.body (sym (named_is _ ed) ∙ w) in
-          lift m a ha (obeys.unfired-spared S a c d p ha m ed b mb f v)
+          lift m a ha (obeys.unfired_spared S a c d p ha m ed b mb f v)
 
   down : (k : ℕ) (S : List ℕ) → length S ≤ k → Part D S → (a : ℕ) → a < size D → val S a ≡ true → given D.creds model S [] a ≡ true
   down zero S h = model_down S (λ T l. absurd (omega arith))

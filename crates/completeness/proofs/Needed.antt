@@ -139,10 +139,10 @@ by_sample k f = (sample, sample_well_formed, sample_detectable, f)
 each_needed : (k : ℕ) → k ∈ enough → Needed k
 unfolding enough unfold_sample t1_fact
 each_needed =
-    also Needed (by_sample 1 (uses_by 1 sample _ carried1 [] refl))
-    (also Needed (by_sample 2 (uses_by 2 sample _ carried2 (fact 2 ∷ []) refl))
-    (also Needed (by_sample 3 (uses_by 3 sample _ carried3 (fact 2 ∷ []) refl))
-    (also Needed (by_sample 5 (uses_by 5 sample _ carried5 (fact 2 ∷ []) refl))
+    also Needed (by_sample 1 (uses_by 1 sample (sample_with true [] [] three) carried1 [] refl))
+    (also Needed (by_sample 2 (uses_by 2 sample (sample_with true [] probed (atom 3)) carried2 (fact 2 ∷ []) refl))
+    (also Needed (by_sample 3 (uses_by 3 sample (sample_with false [] probed three) carried3 (fact 2 ∷ []) refl))
+    (also Needed (by_sample 5 (uses_by 5 sample (sample_with true (1 ∷ []) probed three) carried5 (fact 2 ∷ []) refl))
     (also Needed (by_sample 6 uses_cut)
     (also Needed (t1, t1_well_formed, t1_detectable, uses_by 7 t1 t1_fact carried7 [] refl)
     (also Needed (by_sample 8 uses_resolve)

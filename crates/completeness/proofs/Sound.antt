@@ -16,6 +16,7 @@ use Rattle.completeness.specs.Sound.{SoundIsWellFormed}
 
 rising_low : (low : ℕ) (l : List ℕ) → RisingFrom low l → (y : ℕ) → y ∈ l → low ≤ y
 unfolding RisingFrom
+rising_low low [] r y m = elim m [ ]
 rising_low low (x ∷ l) r y (Memᴰ.head e) = let h = r.0 in omega arith
 rising_low low (x ∷ l) r y (Memᴰ.tail m) = let h = r.0 in omega (arith, rising_low (suc x) l r.1 y m)
 

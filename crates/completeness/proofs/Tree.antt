@@ -46,7 +46,7 @@ module _ (l : Literal) (C : List Literal) where
       go true = (not l.positive, refl)
       go false = (b, e)
 
-known_of : {C : List Literal} {l : Literal} → l ∈ C → Known C l.said
+known_of : {l : Literal} {C : List Literal} → l ∈ C → Known C l.said
 known_of (Memᴰ.head {x = k} {xs = C} e) = rw e (known_here k C)
 known_of {l = l} (Memᴰ.tail {x = k} {xs = C} m) = known_later k C l.said (known_of m)
 

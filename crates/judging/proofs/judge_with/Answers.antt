@@ -1,0 +1,13 @@
+-- `judging::judge_with` meets its contract: the certificate is refused, or offers what is then judged.
+use Rattle.judging.proofs.Judged.{judge_unsound}
+use Rattle.judging.proofs.Sound.{certificate_sound_lem, certificate_refused}
+use borrow.Author.Rules.{rules}
+use Rattle.judging.proofs.judge_with.Goals as goal
+
+pub judge_papers-requires : goal.judge_papers-requires
+judge_papers-requires c = let a = c.args in
+    (c.requires, certificate_sound_lem a.o.atoms a.o.ncreds a.c.now c.certificate.ensures c.in-Sound.is)
+
+pub returns-in-Refused : goal.returns-in-Refused
+returns-in-Refused c = let a = c.args in
+    judge_unsound a.d.now a.c.now a.rounds.now a.o c.requires (certificate_refused a.o.atoms a.o.ncreds a.c.now c.certificate.ensures c.in-Refused.is) c.refused.ensures

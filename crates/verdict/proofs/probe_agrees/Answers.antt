@@ -1,0 +1,13 @@
+-- `verdict::probe_agrees` meets its contract: the two answers are compared as words.
+use Prim.Native.Nat.{ℕ}
+use mathlib.Core.Path.{ap, ◌∙◌}
+use borrow.Author.Rules.{rules}
+use lib.ListN.{get_or}
+use Rattle.meaning.specs.Tests.{◌is◌}
+use Rattle.promise.specs.Code.{bit}
+use Rattle.verdict.proofs.probe_agrees.Goals as goal
+
+pub returns : goal.returns
+unfolding ◌is◌
+returns c = let a = c.args in
+    ap (λ (x : ℕ). x is get_or a.told.now a.i 0) (c.word_of.ensures ∙ ap bit c.answer_in-a.ensures)
