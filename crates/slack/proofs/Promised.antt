@@ -3,6 +3,7 @@ use Prim.Native.Nat.{ℕ}
 use mathlib.Core.Path.{refl, sym, ◌∙◌, subst}
 use mathlib.Core.List.{List, []}
 use denote.Ref.{Bor}
+use denote.MutBor.{MutBor}
 use Rattle.reply.specs.Shown.{shown_of, shown_by}
 use Rattle.judging.specs.Entries.{Judging, Answering}
 use Rattle.judging.specs.Table.{Row, AnswersRow}
@@ -17,13 +18,17 @@ use Rattle.slack.specs.Promised.{Keeps, KeepsAnswers, Promised}
 lends : List ℕ → Bor (List ℕ)
 lends ws = record { ref_ptr = (0, 0); now = ws }
 
+-- and a table, lent
+lends_table : List ℕ → MutBor (List ℕ)
+lends_table ws = record { ref_ptr = (0, 0); ghost_name = 0; now = ws }
+
 keeps_tabled : (f : Judging) → Keeps f → Tabled f
-unfolding lends
-keeps_tabled f k d c t = k ([], ([], ([], tt))) (lends d, (lends c, (lends t, tt))) (lends d, (lends c, (lends (f d c t).table, tt))) refl
+unfolding lends lends_table
+keeps_tabled f k d c t = k ([], ([], ([], tt))) (lends d, (lends c, (lends_table t, tt))) (lends d, (lends c, (lends_table (f d c t).table, tt))) refl
 
 keeps_answers : (g : Answering) → KeepsAnswers g → AnswersTabled g
-unfolding lends
-keeps_answers g k d c t = k ([], ([], tt)) (lends d, (lends t, tt)) (lends d, (lends (g d t).table, tt)) refl c
+unfolding lends lends_table
+keeps_answers g k d c t = k ([], ([], tt)) (lends d, (lends_table t, tt)) (lends d, (lends_table (g d t).table, tt)) refl c
 
 -- and what keeps to the table keeps the contract
 tabled_keeps : (f : Judging) → Tabled f → Keeps f

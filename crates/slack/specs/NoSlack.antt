@@ -1,7 +1,7 @@
 -- "That any two replies allowed by a promise coincide is a proved fact": for every public function, over its contract itself.
 -- `Reads.Post` is what the checker reads of a function's contract: of the lifetimes, the arguments, the answer, and the parameters at exit.
 use Rattle.std.specs.Prelude.{ℕ, ◌≡◌, List}
-use Rattle.std.specs.Borrow.{Bor}
+use Rattle.std.specs.Borrow.{MutBor}
 use Rattle.judging.proofs.judge.Reads as judging-judge
 use Rattle.judging.proofs.answers.Reads as judging-answers
 use Rattle.verdict.proofs.judge_sound.Reads as verdict-judge-sound
@@ -59,7 +59,7 @@ abbrev pub OneOf : {K A X E B : Type 0} → (X → B) → (K → A → X → E �
 OneOf {K} {A} {X} {E} of Post = (κs : K) (a : A) (x y : X) (e f : E) → Post κs a x e → Post κs a y f → of x ≡ of y
 
 -- and a lent table then holds the same words: `table` finds it among the parameters at exit
-abbrev pub OneTable : {K A X E : Type 0} → (E → Bor (List ℕ)) → (K → A → X → E → Type 0) → Type 0
+abbrev pub OneTable : {K A X E : Type 0} → (E → MutBor (List ℕ)) → (K → A → X → E → Type 0) → Type 0
 OneTable {K} {A} {X} {E} table Post = (κs : K) (a : A) (x y : X) (e f : E) → Post κs a x e → Post κs a y f → (table e).now ≡ (table f).now
 
 pub record NoSlack : Type 0 where

@@ -2,7 +2,7 @@
 -- parameters at exit. proofs/Promised.antt has the theorem, `promised`.
 use Rattle.std.specs.Prelude.{ℕ, ◌≡◌, List, ◌↔◌}
 use contract.Lifetimes.{Lfts}
-use Rattle.std.specs.Borrow.{Bor}
+use Rattle.std.specs.Borrow.{MutBor}
 use denote.Triple.Clauses.{Lasts, at_exit}
 use denote.Triple.Entry.{Args}
 use Rattle.judging.specs.Cases.{CasesHold}
@@ -16,11 +16,11 @@ use Rattle.judging.proofs.answers.Reads as answers-contract
 use Rattle.reply.specs.contracts.shown as reply-shown
 
 -- the contract allows what `of` gives of the arguments: its reply, where the lent table then holds its table
-abbrev pub Allows : {K A X E : Type 0} → (A → Gives X) → (E → Bor (List ℕ)) → (K → A → X → E → Type 0) → Type 0
+abbrev pub Allows : {K A X E : Type 0} → (A → Gives X) → (E → MutBor (List ℕ)) → (K → A → X → E → Type 0) → Type 0
 Allows {K} {A} {X} {E} of table Post = (κs : K) (a : A) (e : E) → (table e).now ≡ (of a).table → Post κs a (of a).reply e
 
 -- and nothing else
-abbrev pub AllowsOnly : {K A X E : Type 0} → (A → Gives X) → (E → Bor (List ℕ)) → (K → A → X → E → Type 0) → Type 0
+abbrev pub AllowsOnly : {K A X E : Type 0} → (A → Gives X) → (E → MutBor (List ℕ)) → (K → A → X → E → Type 0) → Type 0
 AllowsOnly {K} {A} {X} {E} of table Post = (κs : K) (a : A) (x : X) (e : E) → Post κs a x e → (x ≡ (of a).reply) × ((table e).now ≡ (of a).table)
 
 -- everything that f gives is what the contract of `judge` allows, and so for `answers`
