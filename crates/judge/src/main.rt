@@ -1,8 +1,10 @@
 // The program judge: reads the papers from standard input and prints the line of the reply.
 #![tactic(auto)]
+
 ghost use Rattle.std.specs.Prelude.{◌≡◌, length, ◌+◌, ◌≤◌};
 
-use libc::{STDIN_FILENO, STDOUT_FILENO};
+use std::io;
+use std::io::{Input, Read, Write};
 
 // Room for the input, and for one byte more, so that too long an input is seen.
 fn input() -> [u8; 65537]
@@ -25,22 +27,24 @@ fn blank() -> [u8; 96]
     [0; 96]
 }
 
-// One read of standard input to the room from place `done` on. Answers how many bytes it got; 0 where the input has ended or cannot be read.
-fn read_more(room: &mut [u8], done: usize) -> usize
+// One read of the input to the room from place `done` on. Answers how many bytes it got; 0 where the input has ended or cannot be read.
+fn read_more<R: Read>(input: &mut R, room: &mut [u8], done: usize) -> usize
     requires { done ≤ length room.old }
     ensures { done + result ≤ length room.new }
 {
-    let got = libc::read(STDIN_FILENO, &mut room[done..]);
-    io::count(got, &room[done..])
+    match input.read(&mut room[done..]) {
+        Ok(got) => got,
+        Err(_) => 0,
+    }
 }
 
-// Reads standard input until it ends or the room is full. Answers how many bytes it got.
-fn read_all(room: &mut [u8]) -> usize
+// Reads the input until it ends or the room is full. Answers how many bytes it got.
+fn read_all<R: Read>(input: &mut R, room: &mut [u8]) -> usize
     ensures { result ≤ length room.new }
 {
     let mut done = 0;
     while done < room.len() {
-        let more = read_more(room, done);
+        let more = read_more(input, room, done);
         if more == 0 {
             return done;
         }
@@ -49,11 +53,11 @@ fn read_all(room: &mut [u8]) -> usize
     done
 }
 
-fn main() {
+fn main(rt: HostRuntime) -> io::Result<()> {
     let mut bytes = input();
-    let n = read_all(&mut bytes);
+    let n = read_all(&mut rt.reader(), &mut bytes);
     let mut table = room();
     let mut out = blank();
     let k = printed::stdin_line(&bytes[..n], &mut table, &mut out);
-    io::write_all(STDOUT_FILENO, &out[..k]);
+    io::writer(&rt).write_all(&out[..k])
 }

@@ -1,5 +1,6 @@
 // What the judge answers, and the part of a paper that an answer shows.
 #![tactic(auto)]
+
 ghost use Rattle.std.specs.Prelude.{◌≡◌};
 ghost use Rattle.reply.specs.Part.{part_of, part_at};
 ghost use Rattle.reply.specs.Shown.{shown_of, shown_at};

@@ -1,5 +1,6 @@
 // The program trial: reads cases from standard input until its end, and prints a line for each.
 #![tactic(auto)]
+
 ghost use Rattle.std.specs.Prelude.{◌≡◌, ◌+◌, ◌*◌, ◌≤◌, length, replicate};
 ghost use Rattle.promise.specs.Place.{part};
 ghost use Rattle.text.specs.Line.{put};
@@ -7,8 +8,9 @@ ghost use Rattle.printed.specs.Lists.{answers_line, rounds_line, asking, shown_l
 ghost use Rattle.trial.specs.Case.{header_of, sizes_at, judge_case, answers_case, paper_case, shown_case, bytes_case, table_case, rounds_case, case_of, size_of, Fits};
 ghost use Rattle.trial.specs.Line.{case_line, Room};
 
-use libc::{STDIN_FILENO, STDOUT_FILENO};
 use reply::Paper;
+use std::io;
+use std::io::{Input, Print, Read, Write};
 
 // What a case asks for: the judge's line, for so many words of the dossier and of the certificate; the answers' line, for so
 // many of the table and of the dossier; the line of shown words, by paper, place and count, for so many words of the dossier
@@ -270,25 +272,46 @@ fn case_line(case: Case, body: &[u8], words: &mut [u16], table: &mut [u16], out:
     }
 }
 
-// Reads so many bytes of standard input to the table's start, or fewer where it ends. Answers how many.
-fn read(bytes: &mut [u8], k: usize) -> usize
+// Reads the input to the table from place `done` on, up to place k. Answers how many bytes it got; 0 where the input has ended or cannot be read.
+fn read_more<R: Read>(input: &mut R, bytes: &mut [u8], done: usize, k: usize) -> usize
+    requires { (done ≤ k) × (k ≤ length bytes.old) }
+    ensures { done + result ≤ k }
+{
+    match input.read(&mut bytes[done..k]) {
+        Ok(got) => got,
+        Err(_) => 0,
+    }
+}
+
+// Reads so many bytes of the input to the table's start, or fewer where it ends. Answers how many.
+fn read<R: Read>(input: &mut R, bytes: &mut [u8], k: usize) -> usize
     requires { k ≤ length bytes.old }
 {
-    io::read_full(STDIN_FILENO, &mut bytes[..k])
+    let mut done = 0;
+    while done < k {
+        let more = read_more(input, bytes, done, k);
+        if more == 0 {
+            return done;
+        }
+        done += more;
+    }
+    done
 }
 
 // Prints INPUT. Answers that the run is not to go on.
-fn bad_case(out: &mut [u8]) -> bool
+fn bad_case<W: Write>(output: &mut W, out: &mut [u8]) -> bool
     requires { 96 ≤ length out.old }
 {
     let end = text::input_line(out);
-    io::write_all(STDOUT_FILENO, &out[..end]);
+    let _ = output.write_all(&out[..end]);
     false
 }
 
 // Reads what follows a case's numbers and prints its line. Answers whether to go on.
-fn rest_of_case(
+fn rest_of_case<R: Read, W: Write>(
     case: Case,
+    input: &mut R,
+    output: &mut W,
     bytes: &mut [u8],
     words: &mut [u16],
     table: &mut [u16],
@@ -297,52 +320,73 @@ fn rest_of_case(
     requires { Fits case × (70000 ≤ length bytes.old) × Room words.old table.old out.old }
 {
     if let Case::Bad = case {
-        return bad_case(out);
+        return bad_case(output, out);
     }
     let k = body_size(case);
-    if read(bytes, k) == k {
+    if read(input, bytes, k) == k {
         let end = case_line(case, &bytes[..k], words, table, out);
-        return io::write_all(STDOUT_FILENO, &out[..end]);
+        return output.write_all(&out[..end]).is_ok();
     }
-    bad_case(out)
+    bad_case(output, out)
 }
 
 // Reads a case and prints its line. Answers whether to go on: not at the end of the input, not after what is no case, and not
 // where the line could not be written.
-fn one_case(bytes: &mut [u8], words: &mut [u16], table: &mut [u16], out: &mut [u8]) -> bool
+fn one_case<R: Read, W: Write>(
+    input: &mut R,
+    output: &mut W,
+    bytes: &mut [u8],
+    words: &mut [u16],
+    table: &mut [u16],
+    out: &mut [u8],
+) -> bool
     requires { (70000 ≤ length bytes.old) × Room words.old table.old out.old }
 {
-    let n = read(bytes, 2);
+    let n = read(input, bytes, 2);
     if n == 0 {
         return false;
     }
     if n < 2 {
-        return bad_case(out);
+        return bad_case(output, out);
     }
     let kind = text::word_at(bytes, 0);
     let h = header_size(kind);
-    if read(bytes, h) == h {
+    if read(input, bytes, h) == h {
         let case = case_of(kind, &bytes[..h]);
-        return rest_of_case(case, bytes, words, table, out);
+        return rest_of_case(case, input, output, bytes, words, table, out);
     }
-    bad_case(out)
+    bad_case(output, out)
 }
 
 // A proved loop has to end, and nothing says that the input does. So the loop counts its turns down, from a number that no run
 // uses up.
-fn run(bytes: &mut [u8], words: &mut [u16], table: &mut [u16], out: &mut [u8])
+fn run<R: Read, W: Write>(
+    input: &mut R,
+    output: &mut W,
+    bytes: &mut [u8],
+    words: &mut [u16],
+    table: &mut [u16],
+    out: &mut [u8],
+)
     requires { (70000 ≤ length bytes.old) × Room words.old table.old out.old }
 {
     let mut turns = u64::MAX;
-    while turns > 0 && one_case(bytes, words, table, out) {
+    while turns > 0 && one_case(input, output, bytes, words, table, out) {
         turns -= 1;
     }
 }
 
-fn main() {
+fn main(rt: HostRuntime) {
     let mut bytes = input();
     let mut words = room();
     let mut table = room();
     let mut out = blank();
-    run(&mut bytes, &mut words, &mut table, &mut out);
+    run(
+        &mut rt.reader(),
+        &mut io::writer(&rt),
+        &mut bytes,
+        &mut words,
+        &mut table,
+        &mut out,
+    );
 }

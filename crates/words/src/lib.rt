@@ -1,5 +1,6 @@
 // Words, and rising lists of them, read at a position: what every reader of a paper shares.
 #![tactic(auto)]
+
 ghost use Rattle.std.specs.Prelude.{◌≡◌, length};
 ghost use Rattle.words.specs.Read.{ranged, next, rising, listed};
 ghost use Rattle.words.specs.Answer.{as_step, as_got, as_low, tested};

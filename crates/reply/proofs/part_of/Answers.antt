@@ -6,11 +6,9 @@ use native.Mathlib.Omega.{arith}
 use native.Mathlib.Nat.{add-sub_cancel_left, sub_self}
 use lib.ListN.{length, take, drop}
 use denote.Ref.{Bor}
-use borrow.Author.Rules.{rules}
 use Rattle.reply.specs.Part.{part_of, part_at, word_at}
 use Rattle.reply.proofs.Part.{fits, starts, unfit, ends}
 use Rattle.reply.proofs.part_of.Goals as goal
-
 
 -- `&s[a..e]` is the part that the contract names, by its words and by its place in memory
 

@@ -1,5 +1,4 @@
 -- `reply::shown` meets its contract: in each arm the paper is known, and of that paper `part_of` ensures the rest. Assumes nothing.
-use borrow.Author.Rules.{rules}
 use Rattle.reply.specs.Shown.{shown_of, shown_at}
 use Rattle.reply.proofs.shown.Goals as goal
 

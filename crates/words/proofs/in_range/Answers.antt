@@ -1,5 +1,4 @@
 -- `words::in_range` meets its contract: the arm and the test say which case of `tested` holds.
-use borrow.Author.Rules.{rules}
 use borrow.Author.Tests.{le-ltb, lt-ltb}
 use Rattle.words.specs.Answer.{tested}
 use Rattle.words.proofs.in_range.Goals as goal

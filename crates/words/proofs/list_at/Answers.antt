@@ -1,5 +1,4 @@
 -- `words::list_at` meets its contract: the count is refused, or the words after it are read.
-use borrow.Author.Rules.{rules}
 use native.Mathlib.Omega.{arith}
 use mathlib.Core.Path.{sym}
 use Rattle.words.proofs.Steps.{stopped, read_word, listed_bad, listed_on}

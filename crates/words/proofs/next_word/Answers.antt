@@ -1,8 +1,6 @@
 -- `words::next_word` meets its contract: at each `return` the tests that led there say which case of `next` holds.
-use native.Mathlib.Omega.{arith}
 use mathlib.Core.Path.{sym, ◌∙◌}
 use Rattle.words.proofs.Steps.{next_past, next_range, next_order, next_on}
-use borrow.Author.Rules.{rules}
 use Rattle.words.proofs.next_word.Goals as goal
 
 pub returns-then-s-p : goal.returns-then-s-p

@@ -1,10 +1,7 @@
 -- `words::rising_words` meets its contract. The invariant: what is left to read from p on answers as the whole does.
-use borrow.Author.Rules.{rules}
-use native.Mathlib.Omega.{arith}
-use mathlib.Core.Path.{◌≡◌, refl, sym, ◌∙◌}
+use mathlib.Core.Path.{◌≡◌}
 use Rattle.words.specs.Read.{rising}
 use Rattle.words.specs.Answer.{as_step}
-use Rattle.words.proofs.Steps.{next_here, rising_none, rising_stop, rising_on}
 use Rattle.words.proofs.rising_words.Given as goal
 
 abbrev pub invariant-loop-left : goal.invariant-loop-left

@@ -1,6 +1,4 @@
 -- `words::word_in` meets its contract: at each `return` the tests that led there say which case of `ranged` holds.
-use borrow.Author.Rules.{rules}
-use native.Mathlib.Omega.{arith}
 use mathlib.Core.Path.{◌∙◌}
 use borrow.Author.Tests.{le-ltb, lt-ltb, le-leb, lt-leb}
 use Rattle.words.specs.Read.{ranged}

@@ -1,0 +1,16 @@
+-- `trial::fill` meets its contract. The invariant: the table has x in its first i words, and from there on what it had.
+use native.Mathlib.Omega.{arith}
+use borrow.Author.Rules.{rules}
+use Prim.Native.Nat.{◌≤◌, ◌-◌}
+use mathlib.Core.Path.{◌≡◌, refl, ap, ◌∙◌}
+use lib.ListN.{length}
+use Rattle.promise.specs.Place.{filled}
+use Rattle.promise.proofs.Place.{filled_none, filled_on, filled_length}
+use Rattle.trial.proofs.Lines.{filled_all}
+use Rattle.trial.proofs.fill.Given as goal
+
+abbrev pub invariant-loop-i : goal.invariant-loop-i
+invariant-loop-i l = (l.i ≤ l.n) × (l.table ≡ filled (λ j. l.x) l.i l.initial.table)
+
+abbrev pub decreases-loop-i : goal.decreases-loop-i
+decreases-loop-i l = l.n - l.i
