@@ -1,5 +1,6 @@
 // Reads the certificate: sound, with what it proposes, or the refusal.
 #![tactic(auto)]
+
 ghost use Rattle.std.specs.Prelude.{◌≡◌, ◌+◌, ◌≤◌, length};
 ghost use mathlib.Core.List as list;
 ghost use Rattle.words.specs.Out.{word, after};

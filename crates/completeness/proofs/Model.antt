@@ -10,7 +10,7 @@ use native.Mathlib.Omega.{arith}
 use lib.ListN.{length}
 use Rattle.meaning.specs.Tests.{◌∈◌, ◌is◌, all, any, keep, at, named}
 use Rattle.meaning.specs.Policy.{Clause, Policy}
-use Rattle.meaning.specs.Formula.{atom, joined, given}
+use Rattle.meaning.specs.Formula.{joined, given}
 use Rattle.meaning.specs.Papers.{Dossier, visible, Statement}
 use Rattle.meaning.specs.Rules.{omit}
 use Rattle.meaning.specs.Verdict.{tried}

@@ -5,9 +5,8 @@ use mathlib.Core.List.Sublistᴰ
 use mathlib.Core.List.{List, [], ◌∷◌, map, flat_map, Sublistᴰ}
 use mathlib.Core.Option.{some}
 use Prim.Native.Nat.{ℕ, ◌<◌}
-use Rattle.meaning.specs.Tests.{◌∈◌, at, named}
+use Rattle.meaning.specs.Tests.{◌∈◌, at}
 use Rattle.meaning.specs.Policy.{Clause}
-use Rattle.meaning.specs.Formula.{atom}
 use Rattle.meaning.specs.Papers.{Entry, Dossier, Statement}
 use Rattle.meaning.specs.Rules.{omit}
 use Rattle.meaning.specs.Extends.{WellNamed}

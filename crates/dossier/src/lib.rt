@@ -1,5 +1,6 @@
 // Reads the dossier: sound, with where each section stands, or the refusal.
 #![tactic(auto)]
+
 ghost use Rattle.std.specs.Prelude.{◌≡◌, ◌≤◌, length};
 ghost use Rattle.words.specs.Answer.{as_step};
 ghost use Rattle.dossier.specs.Read as read;

@@ -1,5 +1,6 @@
 // What a policy makes true, on the clauses held as words, and an entry's answer in it.
 #![tactic(auto)]
+
 ghost use Rattle.std.specs.Prelude.{◌≡◌, true, not, ◌++◌, ℕ, ◌+◌, ◌≤◌, ◌<◌, length, drop, replicate};
 ghost use Rattle.meaning.specs.Tests.{◌∈◌, ◌and◌, ◌or◌, ◌is◌, same, all, any, choose};
 ghost use Rattle.meaning.specs.Policy.{first_round};

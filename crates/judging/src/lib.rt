@@ -1,5 +1,6 @@
 // The judge's two entries.
 #![tactic(auto)]
+
 ghost use Rattle.std.specs.Prelude.{◌≡◌, List, ℕ, length};
 ghost use Rattle.reply.specs.Answer as said;
 ghost use Rattle.judging.specs.Judge.{judge_of, Sound, Offered};

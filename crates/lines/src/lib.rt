@@ -1,6 +1,7 @@
 // When a line follows: rules 1 to 8, on the words of a sound dossier and of a sound certificate.
 // Throughout, d are the dossier's words and o their layout, s the certificate's words, v is the line in question.
 #![tactic(auto)]
+
 ghost use Rattle.std.specs.Prelude.{◌≡◌, List, not, ℕ, ◌+◌, ◌-◌, ◌≤◌, ◌<◌, length};
 ghost use Rattle.std.proofs.Math.Option.{some};
 ghost use Rattle.meaning.specs.Tests.{◌and◌, ◌or◌, ◌is◌, agree, same, all, choose, mem, at, named};

@@ -1,5 +1,6 @@
 // The lines that the programs print: of the judge's reply, of standard input, of the answers, and of shown words.
 #![tactic(auto)]
+
 ghost use Rattle.std.specs.Prelude.{◌≡◌, ◌++◌, ◌+◌, ◌*◌, ◌≤◌, length};
 ghost use Rattle.promise.specs.Place.{part};
 ghost use Rattle.judging.specs.Judge.{judge_of};

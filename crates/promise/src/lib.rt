@@ -1,5 +1,6 @@
 // What lies at a place of a sound paper: the reader's promise to the layers above, which never add up places themselves.
 #![tactic(auto)]
+
 ghost use Rattle.std.specs.Prelude.{◌≡◌, ◌+◌, ◌≤◌, ◌<◌, length, get_or};
 ghost use Rattle.meaning.specs.Tests.{same};
 ghost use Rattle.meaning.specs.Rules.{same_statement};

@@ -1,5 +1,6 @@
 // The judgement of two sound papers.
 #![tactic(auto)]
+
 ghost use Rattle.std.specs.Prelude.{◌≡◌, not, ◌≤◌, ◌<◌, ◌-◌, length, get_or};
 ghost use Rattle.meaning.specs.Tests.{◌is◌, agree, choose, lowest};
 ghost use Rattle.meaning.specs.Looks.{aim};

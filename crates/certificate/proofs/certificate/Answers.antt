@@ -3,7 +3,6 @@ use mathlib.Core.Path.{◌∙◌}
 use native.Mathlib.Omega.{arith}
 use Rattle.words.proofs.Steps.{stopped, read_word}
 use Rattle.certificate.proofs.Whole.{too_long, kind_bad, kind_witness, kind_proof}
-use borrow.Author.Rules.{rules}
 use Rattle.certificate.proofs.certificate.Goals as goal
 
 pub returns-then-words-gt24000 : goal.returns-then-words-gt24000

@@ -2,7 +2,6 @@
 use mathlib.Core.Path.{sym}
 use native.Mathlib.Omega.{arith}
 use Rattle.certificate.proofs.Lines.{data_there, data_past}
-use borrow.Author.Rules.{rules}
 use Rattle.certificate.proofs.data_at.Goals as goal
 
 pub returns-then-s-at : goal.returns-then-s-at

@@ -3,7 +3,6 @@ use mathlib.Core.Path.{sym, ◌∙◌}
 use native.Mathlib.Omega.{arith}
 use Rattle.words.proofs.Steps.{stopped, read_word}
 use Rattle.certificate.proofs.Lines.{rule_bad, data_bad, count_bad, line_on}
-use borrow.Author.Rules.{rules}
 use Rattle.certificate.proofs.line_at.Goals as goal
 
 pub overflow_add-at : goal.overflow_add-at

@@ -4,7 +4,6 @@ use native.Mathlib.Omega.{arith}
 use Rattle.dossier.proofs.Sections.{moved_stop, moved_counted}
 use Rattle.certificate.specs.Read.{line}
 use Rattle.certificate.proofs.Lines.{reads_line}
-use borrow.Author.Rules.{rules}
 use Rattle.certificate.proofs.lines_after.Goals as goal
 
 pub overflow_add-result : goal.overflow_add-result

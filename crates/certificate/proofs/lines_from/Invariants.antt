@@ -1,10 +1,8 @@
 -- `certificate::lines_from` meets its contract. The invariant: the lines left to read from p on answer as all of them do.
-use mathlib.Core.Path.{◌≡◌, refl, sym, ◌∙◌}
+use mathlib.Core.Path.{◌≡◌}
 use Rattle.words.specs.Read.{times}
 use Rattle.words.specs.Answer.{as_step}
-use Rattle.words.proofs.Steps.{refused, passed, times_none, times_bad, times_on}
 use Rattle.certificate.specs.Read.{line}
-use borrow.Author.Rules.{rules}
 use Rattle.certificate.proofs.lines_from.Given as goal
 
 abbrev pub invariant-loop-left : goal.invariant-loop-left

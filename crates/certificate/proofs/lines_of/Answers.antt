@@ -2,7 +2,6 @@
 use mathlib.Core.Path.{sym}
 use Rattle.words.proofs.Steps.{stopped, read_word}
 use Rattle.dossier.proofs.Sections.{part_stop, part_bad, part_counted}
-use borrow.Author.Rules.{rules}
 use Rattle.certificate.proofs.lines_of.Goals as goal
 
 pub returns-in-Stop : goal.returns-in-Stop

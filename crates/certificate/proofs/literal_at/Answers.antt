@@ -3,7 +3,6 @@ use native.Mathlib.Omega.{arith}
 use Rattle.words.specs.Answer.{as_step}
 use Rattle.words.proofs.Steps.{stopped, read_word, step_made}
 use Rattle.certificate.specs.Read.{literal}
-use borrow.Author.Rules.{rules}
 use Rattle.certificate.proofs.literal_at.Goals as goal
 
 pub overflow_add-at : goal.overflow_add-at

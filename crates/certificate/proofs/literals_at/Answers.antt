@@ -1,8 +1,6 @@
 -- `certificate::literals_at` meets its contract. The invariant: the literals read so far are those seen from the start, and the rest answers as all do.
-use Prim.Native.Nat.{◌-◌}
 use mathlib.Core.Path.{sym}
-use borrow.Author.Rules.{rules}
-use Rattle.certificate.proofs.Several.{State, state_first, state_none, state_bad, state_on}
+use Rattle.certificate.proofs.Several.{state_first, state_none, state_bad, state_on}
 use Rattle.certificate.proofs.literals_at.Goals as goal
 
 pub loop-done-init : goal.loop-done-init

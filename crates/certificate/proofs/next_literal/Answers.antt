@@ -2,7 +2,6 @@
 use mathlib.Core.Path.{sym}
 use Rattle.words.proofs.Steps.{refused}
 use Rattle.certificate.proofs.Several.{lit, one_stop, one_twice, one_on}
-use borrow.Author.Rules.{rules}
 use Rattle.certificate.proofs.next_literal.Goals as goal
 
 pub spoken_at-requires : goal.spoken_at-requires

@@ -5,7 +5,6 @@ use Rattle.promise.specs.Layout.{proposal_of}
 use Rattle.promise.specs.declared.Proposal.TheVariants.{Proof}
 use Rattle.certificate.specs.Read.{proof_from}
 use Rattle.certificate.proofs.Whole.{whole_bad, whole_left, whole_done}
-use borrow.Author.Rules.{rules}
 use Rattle.certificate.proofs.proof_after.Goals as goal
 
 pub returns-then-end-s : goal.returns-then-end-s

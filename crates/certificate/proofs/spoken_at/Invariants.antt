@@ -1,13 +1,8 @@
 -- `certificate::spoken_at` meets its contract. The invariant: the literals left to look at answer as all of them do.
-use mathlib.Core.Path.{◌≡◌, refl, sym, ap, ◌∙◌}
+use mathlib.Core.Path.{◌≡◌}
 use Rattle.promise.specs.Place.{many, Fit}
 use Rattle.promise.specs.Line.{literal_at, said_of, literal}
-use Rattle.promise.specs.declared.LiteralAt.{LiteralAt}
-use Rattle.promise.proofs.Place.{fit_first, fit_on}
 use Rattle.certificate.specs.Read.{spoken}
-use Rattle.certificate.proofs.Same.{spoken_none, spoken_yes, spoken_on}
-use Rattle.promise.proofs.Seen.{held}
-use borrow.Author.Rules.{rules}
 use Rattle.certificate.proofs.spoken_at.Given as goal
 
 abbrev pub invariant-loop-unseen : goal.invariant-loop-unseen

@@ -4,7 +4,6 @@ use native.Mathlib.Omega.{arith}
 use Rattle.words.proofs.Steps.{stopped, read_word, refused, passed, step_bad, step_got}
 use Rattle.meaning.specs.Papers.{Statement}
 use Rattle.certificate.specs.Read as read
-use borrow.Author.Rules.{rules}
 use Rattle.certificate.proofs.statement_at.Goals as goal
 
 pub overflow_add-result : goal.overflow_add-result

@@ -6,7 +6,6 @@ use Rattle.promise.specs.declared.Proposal.TheVariants.{Witness}
 use Rattle.dossier.specs.Found.{item_after}
 use Rattle.certificate.specs.Read.{witness_from}
 use Rattle.certificate.proofs.Whole.{whole_bad, whole_left, whole_done}
-use borrow.Author.Rules.{rules}
 use Rattle.certificate.proofs.witness_after.Goals as goal
 
 pub returns-then-q-s : goal.returns-then-q-s

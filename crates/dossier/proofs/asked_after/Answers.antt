@@ -1,6 +1,5 @@
 -- `dossier::asked_after` meets its contract: the probes, then the secret, then that no word is left.
 use Rattle.dossier.proofs.Chain.{probes_bad, probes_read, asked_bad, asked_left, asked_done}
-use borrow.Author.Rules.{rules}
 use Rattle.dossier.proofs.asked_after.Goals as goal
 
 pub section_after-requires-in-Counted : goal.section_after-requires-in-Counted

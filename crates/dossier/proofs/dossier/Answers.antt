@@ -1,6 +1,5 @@
 -- `dossier::dossier` meets its contract: labels, clauses, credentials, then the probes and the secret, each where the former ended.
 use Rattle.dossier.proofs.Chain.{labels_read, labels_bad, clauses_bad, clauses_read, creds_bad, creds_read, rest_bad, all_read, secret_within}
-use borrow.Author.Rules.{rules}
 use native.Mathlib.Omega.{arith}
 use Rattle.dossier.proofs.dossier.Goals as goal
 

@@ -1,7 +1,6 @@
 -- `dossier::entry_at` meets its contract: the credentials are refused or read, and the formula answers for the rest.
 use Rattle.dossier.specs.Read.{entry}
 use Rattle.words.proofs.Steps.{refused, passed, step_bad, step_made}
-use borrow.Author.Rules.{rules}
 use mathlib.Core.Path.{sym}
 use Rattle.dossier.proofs.entry_at.Goals as goal
 

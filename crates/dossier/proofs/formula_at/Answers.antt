@@ -6,7 +6,6 @@ use lib.ListN.{length}
 use borrow.Author.Tests.{le-leb, lt-leb, eq-eqb, ne_eqb}
 use Rattle.dossier.specs.Read.{formula}
 use Rattle.words.specs.Answer.{as_step}
-use borrow.Author.Rules.{rules}
 use Rattle.dossier.proofs.formula_at.Goals as goal
 
 pub overflow_add-p : goal.overflow_add-p

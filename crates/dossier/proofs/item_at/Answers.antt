@@ -1,6 +1,5 @@
 -- `dossier::item_at` meets its contract: in each arm the item is known, and its reader answers.
 use Rattle.dossier.specs.Found.{item_step}
-use borrow.Author.Rules.{rules}
 use Rattle.dossier.proofs.item_at.Goals as goal
 
 pub returns-in-Clause : goal.returns-in-Clause

@@ -1,8 +1,6 @@
 -- `dossier::items_from` meets its contract. The invariant: the items left to read from p on answer as all of them do.
 use Rattle.dossier.proofs.Sections.{items_none, items_bad, items_on}
-use Rattle.dossier.specs.Found.{items_step}
-use borrow.Author.Rules.{rules}
-use mathlib.Core.Path.{◌≡◌, refl, sym, ◌∙◌}
+use mathlib.Core.Path.{refl, sym, ◌∙◌}
 use Rattle.dossier.proofs.items_from.Goals as goal
 
 pub loop-left-init : goal.loop-left-init

@@ -2,7 +2,6 @@
 use Rattle.dossier.specs.Read.{marked}
 use Rattle.words.proofs.Steps.{stopped, read_word, step_made}
 use Rattle.words.specs.Answer.{as_step}
-use borrow.Author.Rules.{rules}
 use native.Mathlib.Omega.{arith}
 use Rattle.dossier.proofs.marked_at.Goals as goal
 

@@ -1,6 +1,5 @@
 -- `dossier::section_after` meets its contract: the part answers, and its places are moved by where it begins.
 use Rattle.dossier.proofs.Sections.{after_stop, after_counted}
-use borrow.Author.Rules.{rules}
 use mathlib.Core.Path.{sym}
 use native.Mathlib.Omega.{arith}
 use Rattle.dossier.proofs.section_after.Goals as goal

@@ -1,7 +1,6 @@
 -- `dossier::section_of` meets its contract: the count is refused or read, and the items answer for the rest.
 use Rattle.dossier.proofs.Sections.{item_stop, item_bad, item_counted}
 use Rattle.words.proofs.Steps.{stopped, read_word}
-use borrow.Author.Rules.{rules}
 use mathlib.Core.Path.{sym}
 use Rattle.dossier.proofs.section_of.Goals as goal
 

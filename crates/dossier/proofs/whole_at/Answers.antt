@@ -1,7 +1,6 @@
 -- `dossier::whole_at` meets its contract: an atom is the whole formula, any other word is left to `operand_at`.
 use mathlib.Core.Path.{sym}
 use native.Mathlib.Omega.{arith}
-use borrow.Author.Rules.{rules}
 use Rattle.dossier.proofs.Operand.{op_atom}
 use Rattle.dossier.proofs.whole_at.Goals as goal
 

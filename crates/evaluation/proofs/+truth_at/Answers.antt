@@ -7,7 +7,6 @@ use Rattle.promise.proofs.Formula.{deep, fits_here, fits_atom, fits_one, fits_tw
 use Rattle.evaluation.specs.Table.{in_table}
 use Prim.Native.Nat.{ℕ, ◌<◌}
 use mathlib.Core.Path.{sym, ◌∙◌}
-use borrow.Author.Rules.{rules}
 use native.Mathlib.Omega.{arith}
 use Rattle.evaluation.proofs.+truth_at.Goals as goal
 

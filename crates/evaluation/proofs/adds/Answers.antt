@@ -1,10 +1,6 @@
 -- `evaluation::adds` meets its contract. The invariant: no byte before i is the round's number.
-use Prim.Native.Nat.{ℕ, ◌-◌, ◌<◌}
-use mathlib.Core.Path.{◌≡◌}
 use native.Mathlib.Omega.{arith}
 use borrow.Author.Count.{below_more}
-use borrow.Author.Rules.{rules}
-use lib.ListN.{length, get_or}
 use Rattle.evaluation.proofs.Rounds.{some_is, none_is}
 use Rattle.evaluation.proofs.adds.Goals as goal
 

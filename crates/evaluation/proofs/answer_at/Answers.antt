@@ -1,6 +1,5 @@
 -- `evaluation::answer_at` meets its contract.
 use mathlib.Core.Path.{◌∙◌}
-use borrow.Author.Rules.{rules}
 use Rattle.evaluation.proofs.Entry.{sources, table_size, table_fits, answer_is}
 use Rattle.evaluation.proofs.answer_at.Goals as goal
 

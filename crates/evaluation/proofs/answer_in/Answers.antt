@@ -1,6 +1,5 @@
 -- `evaluation::answer_in` meets its contract.
 use mathlib.Core.Path.{◌∙◌}
-use borrow.Author.Rules.{rules}
 use Rattle.promise.proofs.Formula.{fits_here, fits_atom, read_atom}
 use Rattle.evaluation.specs.Table.{in_table}
 use Rattle.evaluation.proofs.Entry.{view_fits, read_view}

@@ -1,6 +1,6 @@
 -- `evaluation::answer_probes` meets its contract. The invariant: the table has the answers of the probes passed, and is as it was from there on; what holds at
 -- the last of them is held.
-use Prim.Native.Nat.{ℕ, ◌≤◌, ◌-◌}
+use Prim.Native.Nat.{ℕ}
 use mathlib.Core.Path.{◌≡◌, refl, ap, subst, ◌∙◌}
 use native.Mathlib.Omega.{arith}
 use borrow.Author.Rules.{rules, scaled_Fits}

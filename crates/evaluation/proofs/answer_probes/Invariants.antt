@@ -1,16 +1,11 @@
 -- `evaluation::answer_probes` meets its contract. The invariant: the table has the answers of the probes passed, and is as it was from there on; what holds at
 -- the last of them is held.
-use Prim.Native.Nat.{ℕ, ◌≤◌, ◌-◌}
-use mathlib.Core.Path.{◌≡◌, refl, ap, subst, ◌∙◌}
-use native.Mathlib.Omega.{arith}
-use borrow.Author.Rules.{rules, scaled_Fits}
-use lib.ListN.{length, set}
+use Prim.Native.Nat.{◌≤◌, ◌-◌}
+use mathlib.Core.Path.{◌≡◌}
 use Rattle.promise.specs.Place.{filled}
-use Rattle.promise.proofs.Place.{filled_none, filled_on, filled_length}
 use Rattle.evaluation.specs.Answer.{answer_word}
 use Rattle.evaluation.specs.Held.{Held, last_of}
 use Rattle.evaluation.specs.declared.Which.TheVariants.{Own}
-use Rattle.evaluation.proofs.Entry.{probe_word, probe_there, probe_size, probe_reads, probe_says, probe_held, held_none}
 use Rattle.evaluation.proofs.answer_probes.Given as goal
 
 abbrev pub invariant-loop-i : goal.invariant-loop-i

@@ -1,14 +1,9 @@
 -- `evaluation::body_holds` meets its contract. The invariant: what is left of the body answers as the whole does.
-use Prim.Native.Nat.{ℕ, ◌+◌, ◌≤◌, ◌<◌}
 use Rattle.evaluation.specs.Table.{before}
-use Rattle.meaning.specs.Tests.{◌∈◌, all}
 use Rattle.promise.proofs.Place.{part_none, part_cons, part_first, part_later}
 use Rattle.promise.proofs.Step.{all_none, all_on, all_not}
-use Rattle.promise.specs.Place.{part}
 use borrow.Author.Rules.{rules}
-use borrow.Author.Tests.{not-true, not-false}
-use lib.ListN.{length}
-use mathlib.Core.Path.{◌≡◌, refl, sym, ap, ◌∙◌}
+use mathlib.Core.Path.{refl, sym, ap, ◌∙◌}
 use Rattle.evaluation.proofs.body_holds.Goals as goal
 
 pub loop-left-init : goal.loop-left-init

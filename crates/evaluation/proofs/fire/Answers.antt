@@ -9,6 +9,6 @@ returns-then-body_holds c = fire_yes _ _ _ _ c.is_there.ensures c.body_holds.ens
 pub returns-else-not-is_there : goal.returns-else-not-is_there
 returns-else-not-is_there c =
     elim c.else-not-is_there.branch [
-      else-not-is_there-via-then-not-is_there+else-body_holds w ↦ fire_no _ _ _ _ c.is_there.ensures w.body_holds.ensures w.if-not-is_there.true w.if-body_holds.false
-    | else-not-is_there-via-else-not-is_there w ↦ fire_there _ _ _ _ c.is_there.ensures w.if-not-is_there.false
+      | else-not-is_there-via-then-not-is_there+else-body_holds w ↦ fire_no _ _ _ _ c.is_there.ensures w.body_holds.ensures w.if-not-is_there.true w.if-body_holds.false
+      | else-not-is_there-via-else-not-is_there w ↦ fire_there _ _ _ _ c.is_there.ensures w.if-not-is_there.false
     ]

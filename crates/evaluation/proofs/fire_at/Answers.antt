@@ -4,7 +4,6 @@ use Rattle.evaluation.specs.Table.{fire_one}
 use Rattle.evaluation.proofs.Firing.{fires}
 use Rattle.promise.specs.Clause.{clause_of}
 use Rattle.promise.specs.declared.ClauseAt.{ClauseAt}
-use borrow.Author.Rules.{rules}
 use Rattle.evaluation.proofs.fire_at.Goals as goal
 
 pub fire-requires : goal.fire-requires

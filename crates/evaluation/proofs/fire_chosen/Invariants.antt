@@ -1,9 +1,6 @@
 -- `evaluation::fire_chosen` meets its contract. The invariant: firing what is left on the table so far is firing all.
-use borrow.Author.Rules.{rules}
 use lib.ListN.{length}
-use native.Mathlib.Omega.{arith}
-use mathlib.Core.Path.{refl}
-use Rattle.evaluation.proofs.Firing.{firing, Left, left_all, left_first, left_on, left_none}
+use Rattle.evaluation.proofs.Firing.{firing, Left}
 use Rattle.evaluation.specs.Which.{named}
 use Rattle.evaluation.proofs.fire_chosen.Given as goal
 

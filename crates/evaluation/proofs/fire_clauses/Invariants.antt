@@ -1,7 +1,6 @@
 -- `evaluation::fire_clauses` meets its contract. The invariant: firing what is left on the table so far is firing all.
-use borrow.Author.Rules.{rules}
 use lib.ListN.{length}
-use Rattle.evaluation.proofs.Firing.{firing, Left, left_all, left_first, left_on, left_none}
+use Rattle.evaluation.proofs.Firing.{firing, Left}
 use Rattle.promise.specs.Clause.{credential}
 use Rattle.evaluation.proofs.fire_clauses.Given as goal
 

@@ -1,6 +1,5 @@
 -- `evaluation::fire_if` meets its contract: by the flag.
 use Rattle.meaning.specs.Tests.{choose}
-use borrow.Author.Rules.{rules}
 use Rattle.evaluation.proofs.fire_if.Goals as goal
 
 pub returns-then-b : goal.returns-then-b

@@ -1,7 +1,6 @@
 -- `evaluation::fire_marked` meets its contract. The invariant: firing what is left on the table so far is firing all.
-use borrow.Author.Rules.{rules}
 use lib.ListN.{length}
-use Rattle.evaluation.proofs.Firing.{keeping, Left, left_all, left_first, left_on, left_none}
+use Rattle.evaluation.proofs.Firing.{keeping, Left}
 use Rattle.promise.specs.Clause.{marked}
 use Rattle.evaluation.proofs.fire_marked.Given as goal
 

@@ -7,7 +7,6 @@ use Rattle.evaluation.specs.Which.{fire_marked}
 use Rattle.evaluation.proofs.Firing.{fires}
 use Rattle.promise.specs.Clause.{clause_of, marked_of}
 use Rattle.promise.specs.declared.MarkedAt.{MarkedAt}
-use borrow.Author.Rules.{rules}
 use Rattle.evaluation.proofs.fire_marked_at.Goals as goal
 
 pub fire_if-requires : goal.fire_if-requires

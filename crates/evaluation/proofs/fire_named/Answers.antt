@@ -4,7 +4,6 @@ use lib.ListN.{get_or}
 use mathlib.Core.Path.{ap, ◌∙◌}
 use Rattle.evaluation.specs.Table.{fire_one}
 use Rattle.promise.specs.Clause.{clause_at, clause_of}
-use borrow.Author.Rules.{rules}
 use Rattle.evaluation.proofs.fire_named.Goals as goal
 
 pub fire_at-requires : goal.fire_at-requires

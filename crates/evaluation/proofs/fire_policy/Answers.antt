@@ -2,7 +2,6 @@
 use mathlib.Core.Path.{◌∙◌}
 use native.Mathlib.Omega.{arith}
 use Rattle.evaluation.proofs.Firing.{own_fits, witness_fits, policy_own, policy_tried}
-use borrow.Author.Rules.{rules}
 use Rattle.evaluation.proofs.fire_policy.Goals as goal
 
 pub fire_marked-requires : goal.fire_marked-requires

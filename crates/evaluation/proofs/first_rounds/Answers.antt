@@ -1,5 +1,4 @@
 -- `evaluation::first_rounds` meets its contract: the rounds run on the first bytes of a table of zeros.
-use borrow.Author.Rules.{rules}
 use Rattle.evaluation.specs.Held.{table_of}
 use Rattle.evaluation.proofs.Entry.{zeros, zeros_size, run_back}
 use Rattle.evaluation.proofs.first_rounds.Goals as goal

@@ -1,6 +1,5 @@
 -- `evaluation::is_there` meets its contract.
 use Rattle.evaluation.proofs.Firing.{has_word}
-use borrow.Author.Rules.{rules}
 use Rattle.evaluation.proofs.is_there.Goals as goal
 
 pub returns : goal.returns

@@ -2,7 +2,6 @@
 use mathlib.Core.Path.{◌∙◌}
 use borrow.Author.Tests.{eq-eqb, ne_eqb}
 use Rattle.meaning.specs.Tests.{◌is◌, choose}
-use borrow.Author.Rules.{rules}
 use Rattle.evaluation.proofs.joined.Goals as goal
 
 pub returns-then-x-eq258 : goal.returns-then-x-eq258

@@ -1,6 +1,5 @@
 -- `evaluation::known` meets its contract: the same credentials give the same table.
 use mathlib.Core.Path.{ap, ◌∙◌}
-use borrow.Author.Rules.{rules}
 use Rattle.promise.specs.declared.EntryAt.{EntryAt}
 use Rattle.evaluation.specs.Held.{table_of, Held}
 use Rattle.evaluation.proofs.Entry.{sources, held_alike}

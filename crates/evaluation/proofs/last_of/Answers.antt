@@ -1,6 +1,5 @@
 -- `evaluation::last_of` meets its contract.
 use mathlib.Core.Path.{sym}
-use borrow.Author.Rules.{rules}
 use Rattle.evaluation.proofs.Entry.{last_none, last_some}
 use Rattle.evaluation.proofs.last_of.Goals as goal
 

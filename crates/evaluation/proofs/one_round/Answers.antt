@@ -1,6 +1,5 @@
 -- `evaluation::one_round` meets its contract: the policy, then the credentials that are chosen, then a look whether an atom was added.
 use mathlib.Core.Path.{◌∙◌}
-use borrow.Author.Rules.{rules}
 use Rattle.evaluation.proofs.Firing.{chosen_fits, joined_fired}
 use Rattle.evaluation.proofs.one_round.Goals as goal
 

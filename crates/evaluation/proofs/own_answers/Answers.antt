@@ -1,7 +1,6 @@
 -- `evaluation::own_answers` meets its contract: the probes, then the secret.
 use mathlib.Core.Path.{refl, ◌∙◌}
 use native.Mathlib.Omega.{arith}
-use borrow.Author.Rules.{rules}
 use Rattle.evaluation.proofs.Entry.{table_size, table_fits, answer_is}
 use Rattle.evaluation.proofs.own_answers.Goals as goal
 

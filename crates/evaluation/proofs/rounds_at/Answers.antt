@@ -1,6 +1,5 @@
 -- `evaluation::rounds_at` meets its contract: the numbers, written to the start of the table.
 use native.Mathlib.Omega.{arith}
-use borrow.Author.Rules.{rules}
 use Rattle.evaluation.proofs.Entry.{sources, table_size, rounds_are}
 use Rattle.evaluation.proofs.rounds_at.Goals as goal
 

@@ -1,5 +1,4 @@
 -- `evaluation::was_there` meets its contract.
-use borrow.Author.Rules.{rules}
 use Rattle.evaluation.proofs.Firing.{before_word, before_not}
 use Rattle.evaluation.proofs.was_there.Goals as goal
 

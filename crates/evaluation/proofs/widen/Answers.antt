@@ -1,10 +1,8 @@
 -- `evaluation::widen` meets its contract. The invariant: the table begins with the numbers before i and is as it was from there on.
-use Prim.Native.Nat.{◌-◌, ◌≤◌}
 use mathlib.Core.Path.{◌≡◌, refl, ap, ◌∙◌}
 use native.Mathlib.Omega.{arith}
 use borrow.Author.Rules.{rules}
-use lib.ListN.{length, get_or}
-use Rattle.promise.specs.Place.{filled}
+use lib.ListN.{length}
 use Rattle.promise.proofs.Place.{filled_none, filled_on, filled_length}
 use Rattle.evaluation.proofs.Entry.{widened}
 use Rattle.evaluation.proofs.widen.Goals as goal

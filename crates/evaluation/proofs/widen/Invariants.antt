@@ -1,12 +1,8 @@
 -- `evaluation::widen` meets its contract. The invariant: the table begins with the numbers before i and is as it was from there on.
 use Prim.Native.Nat.{◌-◌, ◌≤◌}
-use mathlib.Core.Path.{◌≡◌, refl, ap, ◌∙◌}
-use native.Mathlib.Omega.{arith}
-use borrow.Author.Rules.{rules}
+use mathlib.Core.Path.{◌≡◌}
 use lib.ListN.{length, get_or}
 use Rattle.promise.specs.Place.{filled}
-use Rattle.promise.proofs.Place.{filled_none, filled_on, filled_length}
-use Rattle.evaluation.proofs.Entry.{widened}
 use Rattle.evaluation.proofs.widen.Given as goal
 
 abbrev pub invariant-loop-i : goal.invariant-loop-i

@@ -2,7 +2,6 @@
 use Rattle.judging.proofs.Judged.{answers_refused}
 use Rattle.judging.proofs.Table.{kept_row}
 use Rattle.judging.proofs.Sound.{dossier_sound_lem, dossier_refused}
-use borrow.Author.Rules.{rules}
 use Rattle.judging.proofs.answers.Goals as goal
 
 pub answers_with-requires : goal.answers_with-requires

@@ -4,7 +4,6 @@ use Rattle.judging.proofs.Judged.{answers_short, answers_given}
 use Rattle.judging.proofs.Sound.{sound_laid}
 use Rattle.lines.proofs.Tables.{creds_filled, probes_filled}
 use Rattle.verdict.proofs.Tables.{creds_fit, probes_fit}
-use borrow.Author.Rules.{rules}
 use native.Mathlib.Omega.{arith}
 use Rattle.judging.proofs.answers_with.Goals as goal
 

@@ -2,7 +2,6 @@
 use Rattle.judging.proofs.Judged.{judge_refused}
 use Rattle.judging.proofs.Table.{replied_row}
 use Rattle.judging.proofs.Sound.{dossier_sound_lem, dossier_refused}
-use borrow.Author.Rules.{rules}
 use Rattle.judging.proofs.judge.Goals as goal
 
 pub judge_with-requires : goal.judge_with-requires

@@ -1,6 +1,5 @@
 -- `judging::judge_papers` meets its contract: 18, or the judgement.
 use native.Mathlib.Omega.{arith}
-use borrow.Author.Rules.{rules}
 use Rattle.judging.proofs.Judged.{judge_short, judge_meant}
 use Rattle.judging.proofs.Sound.{sound_laid, offered_there}
 use Rattle.judging.proofs.judge_papers.Goals as goal

@@ -1,7 +1,6 @@
 -- `judging::judge_with` meets its contract: the certificate is refused, or offers what is then judged.
 use Rattle.judging.proofs.Judged.{judge_unsound}
 use Rattle.judging.proofs.Sound.{certificate_sound_lem, certificate_refused}
-use borrow.Author.Rules.{rules}
 use Rattle.judging.proofs.judge_with.Goals as goal
 
 pub judge_papers-requires : goal.judge_papers-requires

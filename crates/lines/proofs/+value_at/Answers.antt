@@ -2,7 +2,6 @@
 use native.Mathlib.Omega.{arith}
 use Rattle.promise.proofs.Formula.{deep, fits_here, fits_one, fits_two, read_atom, read_joined, read_not, read_true}
 use Rattle.lines.specs.Tri.{supposing}
-use Prim.Native.Nat.{ℕ, ◌<◌}
 use Rattle.lines.proofs.+value_at.Goals as goal
 
 pub word-x-requires : goal.word-x-requires

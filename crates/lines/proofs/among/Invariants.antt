@@ -1,13 +1,9 @@
 -- `lines::among` meets its contract. The invariant: x is among them exactly if it is among those that are left.
 use Prim.Native.Nat.{◌+◌, ◌≤◌}
-use mathlib.Core.Path.{◌∙◌, ◌≡◌, refl, sym}
-use native.Mathlib.Omega.{arith}
-use borrow.Author.Rules.{rules}
+use mathlib.Core.Path.{◌≡◌}
 use lib.ListN.{length}
 use Rattle.meaning.specs.Tests.{mem}
-use Rattle.promise.proofs.Place.{part_cons, part_none}
 use Rattle.promise.specs.Place.{part}
-use Rattle.promise.proofs.Step.{any_none, any_on, any_yes, is_not, is_of}
 use Rattle.lines.proofs.among.Given as goal
 
 abbrev pub invariant-loop-left : goal.invariant-loop-left

@@ -1,6 +1,5 @@
 -- `lines::assumed_follows` meets its contract.
 use mathlib.Core.Path.{◌∙◌, sym}
-use borrow.Author.Rules.{rules}
 use Rattle.meaning.specs.Rules.{follows}
 use Rattle.lines.proofs.Names.{literal_held, literal_is, literal_no}
 use Rattle.promise.proofs.Step.{no_and, yes_and}

@@ -1,6 +1,5 @@
 -- `lines::atom_covered` meets its contract.
 use mathlib.Core.Path.{◌∙◌, sym}
-use borrow.Author.Rules.{rules}
 use Rattle.meaning.proofs.Tests.{and_of, or_left}
 use Rattle.lines.specs.Asks.{covered_atom}
 use Rattle.promise.proofs.Step.{and_no, no_and, no_or}
@@ -15,6 +14,6 @@ pub returns : goal.returns
 unfolding covered_atom
 returns c =
     c.denies.ensures ∙ sym (no_or _ (elim c.if-own.branch [
-      then-own+else-among w ↦ and_no _ (sym w.among.ensures ∙ w.if-among.false)
-    | else-own w ↦ no_and _ w.if-own.false
+      | then-own+else-among w ↦ and_no _ (sym w.among.ensures ∙ w.if-among.false)
+      | else-own w ↦ no_and _ w.if-own.false
     ]))

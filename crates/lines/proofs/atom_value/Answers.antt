@@ -1,5 +1,4 @@
 -- `lines::atom_value` meets its contract: a list of no atoms is empty.
-use borrow.Author.Rules.{rules}
 use Rattle.promise.specs.Place.{part}
 use Rattle.lines.proofs.atom_value.Goals as goal
 

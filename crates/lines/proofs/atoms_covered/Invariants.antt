@@ -1,15 +1,11 @@
 -- `lines::atoms_covered` meets its contract. The invariant: it is so of each exactly if it is so of each that is left.
 use Prim.Native.Nat.{◌+◌, ◌≤◌}
-use mathlib.Core.Path.{◌∙◌, ◌≡◌, ap, refl, sym}
-use native.Mathlib.Omega.{arith}
-use borrow.Author.Rules.{rules}
+use mathlib.Core.Path.{◌≡◌}
 use lib.ListN.{length}
 use Rattle.meaning.specs.Tests.{all}
-use Rattle.promise.proofs.Place.{part_cons, part_none}
 use Rattle.promise.specs.Line.{literals_of, said_of}
 use Rattle.promise.specs.Place.{part}
 use Rattle.lines.specs.Asks.{covered_atom}
-use Rattle.promise.proofs.Step.{all_none, all_not, all_on}
 use Rattle.lines.proofs.atoms_covered.Given as goal
 
 abbrev pub invariant-loop-left : goal.invariant-loop-left

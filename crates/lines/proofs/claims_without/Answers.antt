@@ -1,6 +1,5 @@
 -- `lines::claims_without` meets its contract.
 use mathlib.Core.Path.{◌∙◌, sym}
-use borrow.Author.Rules.{rules}
 use Rattle.meaning.proofs.Tests.{and_of}
 use Rattle.meaning.specs.Rules.{claims}
 use Rattle.promise.proofs.Step.{and_no, no_and, yes_and}

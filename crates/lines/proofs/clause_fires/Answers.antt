@@ -1,6 +1,5 @@
 -- `lines::clause_fires` meets its contract.
 use mathlib.Core.Path.{◌∙◌, sym}
-use borrow.Author.Rules.{rules}
 use Rattle.meaning.proofs.Tests.{and_of}
 use Rattle.meaning.specs.Rules.{fires}
 use Rattle.meaning.specs.Tests.{◌and◌, ◌or◌}

@@ -1,8 +1,6 @@
 -- `lines::clause_follows` meets its contract.
 use mathlib.Core.Path.{◌∙◌, sym}
-use borrow.Author.Rules.{rules}
 use Rattle.meaning.specs.Rules.{follows}
-use Rattle.meaning.specs.Tests.{at}
 use Rattle.promise.specs.Clause.{marked}
 use Rattle.promise.specs.Layout.{dossier_at}
 use Rattle.lines.proofs.Names.{literal_held, literal_is, literal_no, thing_is, thing_no, thing_ok}

@@ -1,8 +1,6 @@
 -- `lines::credential_covered` meets its contract.
 use mathlib.Core.Path.{◌∙◌, sym}
-use borrow.Author.Rules.{rules}
 use Rattle.meaning.proofs.Tests.{or_left}
-use Rattle.meaning.specs.Tests.{at}
 use Rattle.promise.specs.Clause.{credential}
 use Rattle.promise.specs.Layout.{dossier_at}
 use Rattle.lines.specs.Asks.{covered_cred}

@@ -1,6 +1,5 @@
 -- `lines::credential_holds` meets its contract.
 use mathlib.Core.Path.{◌∙◌, sym}
-use borrow.Author.Rules.{rules}
 use Rattle.promise.proofs.Step.{no_and, yes_and}
 use Rattle.lines.proofs.credential_holds.Goals as goal
 

@@ -1,14 +1,7 @@
 -- `lines::credentials_covered` meets its contract. The invariant: it is so of each exactly if it is so of each that is left.
-use Prim.Native.Nat.{◌+◌, ◌≤◌}
-use mathlib.Core.Path.{◌∙◌, ◌≡◌, ap, refl, sym}
+use mathlib.Core.Path.{◌∙◌, ap, refl, sym}
 use native.Mathlib.Omega.{arith}
-use borrow.Author.Rules.{rules}
-use lib.ListN.{length}
-use Rattle.meaning.specs.Tests.{all}
 use Rattle.promise.proofs.Place.{part_cons, part_none}
-use Rattle.promise.specs.Layout.{dossier_at}
-use Rattle.promise.specs.Line.{literals_of, said_of}
-use Rattle.promise.specs.Place.{part}
 use Rattle.lines.specs.Asks.{covered_cred}
 use Rattle.promise.proofs.Step.{all_none, all_not, all_on}
 use Rattle.lines.proofs.credentials_covered.Goals as goal

@@ -1,6 +1,5 @@
 -- `lines::cut_follows` meets its contract.
 use mathlib.Core.Path.{◌∙◌, sym}
-use borrow.Author.Rules.{rules}
 use Rattle.meaning.specs.Rules.{follows}
 use Rattle.meaning.specs.Tests.{◌and◌}
 use Rattle.lines.specs.Asks.{covered_atom, covered_cred, cuts}

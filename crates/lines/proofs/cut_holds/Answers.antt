@@ -1,7 +1,6 @@
 -- `lines::cut_holds` meets its contract.
 use mathlib.Core.Bool.{not}
 use mathlib.Core.Path.{◌∙◌, ap, sym}
-use borrow.Author.Rules.{rules}
 use Rattle.meaning.proofs.Tests.{and_of}
 use Rattle.lines.specs.Asks.{cuts}
 use Rattle.promise.proofs.Step.{and_no, is_not, is_of, no_and, yes_and}

@@ -1,5 +1,4 @@
 -- `lines::denies` meets its contract.
-use borrow.Author.Rules.{rules}
 use Rattle.meaning.specs.Rules.{denied}
 use Rattle.lines.proofs.denies.Goals as goal
 

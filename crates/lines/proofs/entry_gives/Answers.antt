@@ -1,6 +1,5 @@
 -- `lines::entry_gives` meets its contract.
 use native.Mathlib.Omega.{arith}
-use borrow.Author.Rules.{rules}
 use Rattle.lines.proofs.Value.{entry_seen}
 use Rattle.lines.proofs.entry_gives.Goals as goal
 

@@ -1,10 +1,8 @@
 -- `lines::is_in` meets its contract. The invariant: l is among the literals exactly if it is among those that are left.
-use mathlib.Core.Path.{◌∙◌, ◌≡◌, refl, sym}
-use borrow.Author.Rules.{rules}
+use mathlib.Core.Path.{◌∙◌, refl, sym}
 use Rattle.meaning.specs.Rules.{is_in}
 use Rattle.promise.proofs.Place.{fit_first, many_none}
-use Rattle.promise.specs.Line.{literal, literal_of}
-use Rattle.promise.specs.Place.{Fit, many}
+use Rattle.promise.specs.Line.{literal}
 use Rattle.lines.proofs.Names.{literals_fit, literals_on}
 use Rattle.promise.proofs.Step.{any_none, any_on, any_yes}
 use Rattle.lines.proofs.is_in.Goals as goal

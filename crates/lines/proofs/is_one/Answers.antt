@@ -1,6 +1,5 @@
 -- `lines::is_one` meets its contract.
 use mathlib.Core.Path.{◌∙◌, sym}
-use borrow.Author.Rules.{rules}
 use Rattle.promise.proofs.Step.{no_and, signs_agree, signs_differ, yes_and}
 use Rattle.lines.proofs.is_one.Goals as goal
 

@@ -1,7 +1,6 @@
 -- `lines::later` meets its contract.
 use borrow.Author.Tests.{eq-eqb, ne_eqb}
 use Rattle.meaning.specs.Tests.{◌is◌, choose}
-use borrow.Author.Rules.{rules}
 use Rattle.lines.proofs.later.Goals as goal
 
 pub returns-then-x-eq0 : goal.returns-then-x-eq0

@@ -1,5 +1,4 @@
 -- `lines::line_follows` meets its contract, by the rule's number.
-use borrow.Author.Rules.{rules}
 use Rattle.lines.proofs.Rules.{line_fits, line_seen}
 use Rattle.lines.proofs.line_follows.Goals as goal
 

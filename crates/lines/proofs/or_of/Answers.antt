@@ -1,6 +1,5 @@
 -- `lines::or_of` meets its contract.
 use mathlib.Core.Path.{◌∙◌, ap, ap₂}
-use borrow.Author.Rules.{rules}
 use Rattle.lines.specs.Tri.{and3, not3}
 use Rattle.lines.proofs.or_of.Goals as goal
 

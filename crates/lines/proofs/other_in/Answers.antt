@@ -2,7 +2,6 @@
 use mathlib.Core.Path.{◌∙◌, sym}
 use Rattle.promise.proofs.Step.{is_of, is_not, no_or}
 use Rattle.meaning.proofs.Tests.{or_left}
-use borrow.Author.Rules.{rules}
 use Rattle.lines.proofs.other_in.Goals as goal
 
 pub returns-then-x-eq0 : goal.returns-then-x-eq0

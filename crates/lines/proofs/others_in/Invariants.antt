@@ -1,14 +1,9 @@
 -- `lines::others_in` meets its contract. The invariant: each but number i is in v exactly if each that is left but number x is.
-use mathlib.Core.Path.{◌∙◌, ◌≡◌, refl, sym}
+use mathlib.Core.Path.{◌≡◌}
 use Rattle.meaning.specs.Rules.{is_in, others}
 use Rattle.meaning.specs.Tests.{all}
-use Rattle.promise.proofs.Place.{fit_first, many_none}
 use Rattle.promise.specs.Line.{literal, literals_of}
 use Rattle.promise.specs.Place.{Fit, many}
-use Rattle.promise.proofs.Step.{all_none, others_none}
-use Rattle.lines.proofs.Names.{literals_few, literals_fit, literals_on}
-use Rattle.lines.proofs.Turns.{others_in_on, others_in_not}
-use borrow.Author.Rules.{rules}
 use Rattle.lines.proofs.others_in.Given as goal
 
 abbrev pub invariant-loop-left : goal.invariant-loop-left

@@ -1,5 +1,4 @@
 -- `lines::pick` meets its contract.
-use borrow.Author.Rules.{rules}
 use Rattle.lines.proofs.Names.{row_at, row_past}
 use Rattle.lines.proofs.pick.Goals as goal
 

@@ -1,7 +1,6 @@
 -- `lines::probe_follows` meets its contract.
 use mathlib.Core.Path.{◌∙◌, ap, sym}
 use native.Mathlib.Omega.{arith}
-use borrow.Author.Rules.{rules}
 use Rattle.meaning.proofs.Tests.{named_is}
 use Rattle.meaning.specs.Papers.{answer}
 use Rattle.meaning.specs.Rules.{◌gives◌, follows}

@@ -1,8 +1,6 @@
 -- `lines::resolve_follows` meets its contract.
 use mathlib.Core.Path.{◌∙◌, sym}
-use borrow.Author.Rules.{rules}
 use Rattle.meaning.specs.Rules.{follows}
-use Rattle.meaning.specs.Tests.{at}
 use Rattle.promise.specs.Line.{line}
 use Rattle.lines.specs.Asks.{resolves}
 use Rattle.lines.proofs.Names.{thing_is, thing_no, thing_ok}

@@ -1,7 +1,6 @@
 -- `lines::resolve_holds` meets its contract.
 use mathlib.Core.Bool.{not}
 use mathlib.Core.Path.{◌∙◌, refl, ap, ap₂, sym}
-use borrow.Author.Rules.{rules}
 use Rattle.meaning.specs.Tests.{◌and◌}
 use Rattle.meaning.proofs.Tests.{and_of}
 use Rattle.lines.specs.Asks.{resolves}

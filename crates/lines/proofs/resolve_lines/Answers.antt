@@ -1,6 +1,5 @@
 -- `lines::resolve_lines` meets its contract.
 use mathlib.Core.Path.{◌∙◌, sym}
-use borrow.Author.Rules.{rules}
 use Rattle.lines.proofs.Names.{literal_held, literal_is, literal_no}
 use Rattle.lines.proofs.resolve_lines.Goals as goal
 

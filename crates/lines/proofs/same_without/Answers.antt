@@ -1,15 +1,9 @@
 -- `lines::same_without` meets its contract. The invariant: what is left of both lists lies within the words, and decides.
-use Prim.Native.Nat.{◌+◌, ◌≤◌}
-use mathlib.Core.Path.{◌∙◌, ◌≡◌, refl, sym}
+use mathlib.Core.Path.{◌∙◌, refl, sym}
 use native.Mathlib.Omega.{arith}
-use lib.ListN.{length}
-use Rattle.meaning.specs.Rules.{omit}
-use Rattle.meaning.specs.Tests.{same}
 use Rattle.promise.proofs.Place.{part_cons, part_none}
-use Rattle.promise.specs.Place.{part}
 use Rattle.promise.proofs.Step.{omit_none, same_end}
 use Rattle.lines.proofs.Turns.{taken_few, without_on, without_not}
-use borrow.Author.Rules.{rules}
 use Rattle.lines.proofs.same_without.Goals as goal
 
 pub loop-left-init : goal.loop-left-init

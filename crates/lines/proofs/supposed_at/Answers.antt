@@ -1,13 +1,10 @@
 -- `lines::supposed_at` meets its contract. The invariant: the literals that are left give the statement its value.
-use mathlib.Core.Path.{◌∙◌, ◌≡◌, ap, refl, sym}
-use Rattle.meaning.specs.Rules.{supposed}
+use mathlib.Core.Path.{◌∙◌, ap, refl, sym}
 use Rattle.promise.proofs.Place.{fit_first, many_none}
-use Rattle.promise.specs.Line.{literal, said_of}
-use Rattle.promise.specs.Place.{Fit, many}
+use Rattle.promise.specs.Line.{literal}
 use Rattle.lines.specs.Tri.{tri_of}
 use Rattle.lines.proofs.Names.{literals_fit, literals_on}
 use Rattle.lines.proofs.Value.{supposed_is, supposed_none, supposed_on}
-use borrow.Author.Rules.{rules}
 use Rattle.lines.proofs.supposed_at.Goals as goal
 
 pub loop-left-init : goal.loop-left-init

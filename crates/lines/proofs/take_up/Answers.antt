@@ -1,7 +1,6 @@
 -- `lines::take_up` meets its contract.
 use mathlib.Core.Path.{◌∙◌, sym}
 use Rattle.lines.proofs.Turns.{taken_skip, taken_end, taken_first, taken_not}
-use borrow.Author.Rules.{rules}
 use Rattle.lines.proofs.take_up.Goals as goal
 
 pub returns-then-y-c : goal.returns-then-y-c

@@ -1,6 +1,5 @@
 -- `printed::answers_head` meets its contract: in each arm the answer is known.
 use Rattle.printed.specs.Lists.{answers_head}
-use borrow.Author.Rules.{rules}
 use Rattle.printed.proofs.answers_head.Goals as goal
 
 pub returns-in-Count : goal.returns-in-Count

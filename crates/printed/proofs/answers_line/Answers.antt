@@ -4,7 +4,6 @@ use native.Mathlib.Omega.{arith}
 use Rattle.printed.proofs.Lists.{head_short, answers_line_is}
 use Rattle.text.proofs.Put.{wrote_more, wrote_is}
 use Rattle.judging.proofs.Table.{row_kept}
-use borrow.Author.Rules.{rules}
 use Rattle.printed.proofs.answers_line.Goals as goal
 
 pub list-requires : goal.list-requires

@@ -2,7 +2,6 @@
 use Rattle.text.specs.Line.{decimal}
 use Rattle.text.proofs.Put.{wrote_first, wrote_more}
 use Rattle.printed.proofs.Lists.{titled_short}
-use borrow.Author.Rules.{rules}
 use Rattle.printed.proofs.headed.Goals as goal
 
 pub returns : goal.returns

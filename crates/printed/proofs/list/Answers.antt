@@ -5,7 +5,6 @@ use lib.ListN.{length}
 use Rattle.printed.specs.Lists.{list_of}
 use Rattle.printed.proofs.Lists.{spaced_all_short}
 use Rattle.text.proofs.Put.{placed_more}
-use borrow.Author.Rules.{rules}
 use Rattle.printed.proofs.list.Goals as goal
 
 pub write-requires : goal.write-requires

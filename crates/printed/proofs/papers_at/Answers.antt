@@ -1,7 +1,6 @@
 -- `printed::papers_at` meets its contract: the two parts of the words are the papers.
 use Rattle.text.proofs.Put.{wrote_is}
 use Rattle.printed.proofs.Read.{papers_cut}
-use borrow.Author.Rules.{rules}
 use Rattle.printed.proofs.papers_at.Goals as goal
 
 pub returns : goal.returns

@@ -1,6 +1,5 @@
 -- `printed::papers_line` meets its contract: the line of what the judge replies, with a table of 64 words lent to it.
 use mathlib.Core.Path.{sym, ap, ◌∙◌}
-use borrow.Author.Rules.{rules}
 use Rattle.judging.specs.Judge.{judge_of}
 use Rattle.judging.proofs.Table.{row_replied}
 use Rattle.printed.proofs.papers_line.Goals as goal

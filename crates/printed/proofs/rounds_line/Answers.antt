@@ -3,7 +3,6 @@ use native.Mathlib.Omega.{arith}
 use Rattle.printed.proofs.Lists.{rounds_line_is}
 use Rattle.text.proofs.Put.{reply_short, wrote_more, wrote_is}
 use Rattle.judging.proofs.Table.{row_replied}
-use borrow.Author.Rules.{rules}
 use Rattle.printed.proofs.rounds_line.Goals as goal
 
 pub list-requires : goal.list-requires

@@ -5,7 +5,6 @@ use mathlib.Core.Path.{ap}
 use Rattle.text.proofs.Put.{wrote_more, wrote_is}
 use Rattle.printed.specs.Lists.{asking, shown_head}
 use Rattle.printed.proofs.Lists.{shown_few, shown_line_is}
-use borrow.Author.Rules.{rules}
 use Rattle.printed.proofs.shown_line.Goals as goal
 
 pub list-requires : goal.list-requires

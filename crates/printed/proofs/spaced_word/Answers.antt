@@ -2,7 +2,6 @@
 use native.Mathlib.Omega.{arith}
 use Rattle.printed.specs.Lists.{spaced}
 use Rattle.text.proofs.Put.{placed_more}
-use borrow.Author.Rules.{rules}
 use Rattle.printed.proofs.spaced_word.Goals as goal
 
 pub returns : goal.returns

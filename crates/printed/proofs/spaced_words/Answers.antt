@@ -1,10 +1,6 @@
 -- `printed::spaced_words` meets its contract. The invariant: the first i words are written, and p is the place after them.
 use native.Mathlib.Omega.{arith}
 use borrow.Author.Rules.{rules}
-use Prim.Native.Nat.{◌≤◌, ◌-◌}
-use lib.ListN.{take}
-use Rattle.text.proofs.Put.{Placed}
-use Rattle.printed.specs.Lists.{spaced_all}
 use Rattle.printed.proofs.Lists.{spaced_none, spaced_on, spaced_room, spaced_whole}
 use Rattle.printed.proofs.spaced_words.Goals as goal
 

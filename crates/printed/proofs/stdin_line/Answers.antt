@@ -5,7 +5,6 @@ use Prim.Native.Nat.{◌/◌, ◌≤◌}
 use lib.ListN.{length}
 use Rattle.text.proofs.Sizes.{papers_fill}
 use Rattle.printed.proofs.Read.{printed_bad, printed_papers, table_bad, table_papers}
-use borrow.Author.Rules.{rules}
 use Rattle.printed.proofs.stdin_line.Goals as goal
 
 pub papers_at-requires : goal.papers_at-requires

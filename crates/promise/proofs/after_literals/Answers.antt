@@ -1,5 +1,4 @@
 -- `promise::after_literals` meets its contract. The invariant: `at` is where literal i begins.
-use Prim.Native.Nat.{◌≤◌, ◌-◌}
 use mathlib.Core.Path.{◌≡◌, refl, ap, ◌∙◌}
 use native.Mathlib.Omega.{arith}
 use borrow.Author.Rules.{rules}

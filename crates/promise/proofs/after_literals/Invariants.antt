@@ -1,12 +1,8 @@
 -- `promise::after_literals` meets its contract. The invariant: `at` is where literal i begins.
 use Prim.Native.Nat.{◌≤◌, ◌-◌}
-use mathlib.Core.Path.{◌≡◌, refl, ap, ◌∙◌}
-use native.Mathlib.Omega.{arith}
-use borrow.Author.Rules.{rules}
-use Rattle.promise.specs.Place.{place, Fit}
+use mathlib.Core.Path.{◌≡◌}
+use Rattle.promise.specs.Place.{place}
 use Rattle.promise.specs.Line.{literal}
-use Rattle.promise.specs.declared.LiteralAt.{LiteralAt}
-use Rattle.promise.proofs.Place.{place_on}
 use Rattle.promise.proofs.after_literals.Given as goal
 
 abbrev pub invariant-loop-i : goal.invariant-loop-i

@@ -1,5 +1,4 @@
 -- `promise::clause_at` meets its contract: the words that it reads are those of the decoder.
-use borrow.Author.Rules.{rules}
 use Rattle.promise.proofs.clause_at.Goals as goal
 
 pub returns : goal.returns

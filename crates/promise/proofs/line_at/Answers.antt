@@ -2,7 +2,6 @@
 use native.Mathlib.Omega.{arith}
 use mathlib.Core.Path.{ap, ◌∙◌}
 use Rattle.promise.specs.Line.{data_count}
-use borrow.Author.Rules.{rules}
 use Rattle.promise.proofs.line_at.Goals as goal
 
 pub word-requires : goal.word-requires

@@ -4,7 +4,6 @@ use mathlib.Core.Path.{◌≡◌}
 use Rattle.meaning.specs.Tests.{◌is◌}
 use lib.ListN.{get_or}
 use Rattle.promise.specs.Line.{atoms_at}
-use borrow.Author.Rules.{rules}
 use Rattle.promise.proofs.literal_at.Goals as goal
 
 pub word-requires-2 : goal.word-requires-2

@@ -1,6 +1,5 @@
 -- `promise::marked_at` meets its contract: the words that it reads are those of the decoder.
 use Rattle.meaning.specs.Tests.{◌is◌}
-use borrow.Author.Rules.{rules}
 use Rattle.promise.proofs.marked_at.Goals as goal
 
 pub returns : goal.returns

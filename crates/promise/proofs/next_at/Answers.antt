@@ -7,7 +7,6 @@ use Rattle.promise.specs.declared.MarkedAt.{MarkedAt}
 use Rattle.promise.specs.declared.ClauseAt.{ClauseAt}
 use Rattle.promise.specs.declared.EntryAt.{EntryAt}
 use Rattle.promise.specs.declared.LineAt.{LineAt}
-use borrow.Author.Rules.{rules}
 use Rattle.promise.proofs.next_at.Goals as goal
 
 pub marked_at-m-requires : goal.marked_at-m-requires

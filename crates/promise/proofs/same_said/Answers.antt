@@ -1,6 +1,5 @@
 -- `promise::same_said` meets its contract.
 use mathlib.Core.Path.{◌∙◌, sym}
-use borrow.Author.Rules.{rules}
 use Rattle.meaning.specs.Rules.{same_statement}
 use Rattle.promise.proofs.Step.{and_no, and_yes, is_not, is_of, no_and, yes_and}
 use Rattle.promise.proofs.same_said.Goals as goal

@@ -1,12 +1,7 @@
 -- `promise::same_words` meets its contract. The invariant: what is left of both lists is as long, and decides.
-use Prim.Native.Nat.{◌+◌, ◌≤◌}
-use mathlib.Core.Path.{◌∙◌, ◌≡◌, sym}
+use mathlib.Core.Path.{◌∙◌, sym}
 use native.Mathlib.Omega.{arith}
-use borrow.Author.Rules.{rules}
-use lib.ListN.{length}
-use Rattle.meaning.specs.Tests.{same}
 use Rattle.promise.proofs.Place.{part_cons, part_none}
-use Rattle.promise.specs.Place.{part}
 use Rattle.promise.proofs.Step.{same_differ, same_none, same_not, same_on}
 use Rattle.promise.proofs.same_words.Goals as goal
 

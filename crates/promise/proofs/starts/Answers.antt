@@ -1,5 +1,5 @@
 -- `promise::starts` meets its contract. The invariant: `at` is where thing i begins, and the table has where each before it does.
-use Prim.Native.Nat.{ℕ, ◌≤◌, ◌-◌}
+use Prim.Native.Nat.{ℕ}
 use mathlib.Core.Path.{◌≡◌, refl, ap, ◌∙◌}
 use native.Mathlib.Omega.{arith}
 use borrow.Author.Rules.{rules}

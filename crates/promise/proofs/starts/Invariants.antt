@@ -1,12 +1,8 @@
 -- `promise::starts` meets its contract. The invariant: `at` is where thing i begins, and the table has where each before it does.
-use Prim.Native.Nat.{ℕ, ◌≤◌, ◌-◌}
-use mathlib.Core.Path.{◌≡◌, refl, ap, ◌∙◌}
-use native.Mathlib.Omega.{arith}
-use borrow.Author.Rules.{rules}
-use lib.ListN.{length}
+use Prim.Native.Nat.{◌≤◌, ◌-◌}
+use mathlib.Core.Path.{◌≡◌}
 use Rattle.promise.specs.Place.{place, filled}
-use Rattle.promise.specs.Thing.{next_of, FitOf}
-use Rattle.promise.proofs.Place.{place_on, filled_none, filled_on, filled_length}
+use Rattle.promise.specs.Thing.{next_of}
 use Rattle.promise.proofs.starts.Given as goal
 
 abbrev pub invariant-loop-i : goal.invariant-loop-i

@@ -1,7 +1,6 @@
 -- `promise::word` meets its contract: the words that it reads are those of the decoder.
 use native.Mathlib.Omega.{arith}
 use mathlib.Core.Path.{refl}
-use borrow.Author.Rules.{rules}
 use Rattle.promise.proofs.word.Goals as goal
 
 pub returns : goal.returns

@@ -1,6 +1,5 @@
 -- `text::input_line` meets its contract.
 use Rattle.text.specs.Line.{input_line}
-use borrow.Author.Rules.{rules}
 use Rattle.text.proofs.input_line.Goals as goal
 
 pub returns : goal.returns

@@ -1,6 +1,5 @@
 -- `text::name` meets its contract: in each arm the paper is known.
 use Rattle.text.specs.Line.{name_of}
-use borrow.Author.Rules.{rules}
 use Rattle.text.proofs.name.Goals as goal
 
 pub returns-in-Dossier : goal.returns-in-Dossier

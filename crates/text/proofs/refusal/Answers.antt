@@ -3,7 +3,6 @@ use native.Mathlib.Omega.{arith}
 use mathlib.Core.List.{[], ◌∷◌}
 use Rattle.text.specs.Line.{decimal, name_of, refusal_of}
 use Rattle.text.proofs.Put.{wrote_more, digits_short, name_short}
-use borrow.Author.Rules.{rules}
 use Rattle.text.proofs.refusal.Goals as goal
 
 pub name-c-requires : goal.name-c-requires

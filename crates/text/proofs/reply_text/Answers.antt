@@ -1,6 +1,5 @@
 -- `text::reply_text` meets its contract: in each arm the verdict is known.
 use Rattle.text.specs.Line.{reply_text, verdict_text}
-use borrow.Author.Rules.{rules}
 use Rattle.text.proofs.reply_text.Goals as goal
 
 pub returns-in-Opaque : goal.returns-in-Opaque

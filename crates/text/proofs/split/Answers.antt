@@ -2,7 +2,6 @@
 use native.Mathlib.Omega.{arith}
 use mathlib.Core.Path.{sym, ◌∙◌}
 use Rattle.text.proofs.Sizes.{whole_is, input_odd, input_papers, input_short}
-use borrow.Author.Rules.{rules}
 use Rattle.text.proofs.split.Goals as goal
 
 pub word_at-d-requires : goal.word_at-d-requires

@@ -3,7 +3,6 @@ use Prim.Native.Nat.{◌+◌, ◌*◌}
 use native.Mathlib.Omega.{arith}
 use mathlib.Core.Path.{refl}
 use Rattle.text.specs.Bytes.{word_at}
-use borrow.Author.Rules.{rules}
 use Rattle.text.proofs.word_at.Goals as goal
 
 pub returns : goal.returns

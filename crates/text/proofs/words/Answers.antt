@@ -1,7 +1,7 @@
 -- `text::words` meets its contract. The invariant: the table has the first i words, and from there on what it had.
 use borrow.Author.Rules.{rules}
 use native.Mathlib.Omega.{arith}
-use Prim.Native.Nat.{ℕ, ◌≤◌, ◌-◌}
+use Prim.Native.Nat.{ℕ}
 use mathlib.Core.Path.{◌≡◌, ap, ◌∙◌}
 use lib.ListN.{length}
 use Rattle.promise.specs.Place.{filled}

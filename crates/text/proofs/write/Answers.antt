@@ -1,7 +1,7 @@
 -- `text::write` meets its contract. The invariant: the table has the piece's first i bytes at their place, and elsewhere what it had.
 use borrow.Author.Rules.{rules}
 use native.Mathlib.Omega.{arith}
-use Prim.Native.Nat.{ℕ, ◌≤◌, ◌-◌}
+use Prim.Native.Nat.{ℕ}
 use mathlib.Core.Path.{◌≡◌, refl, ap, ◌∙◌}
 use lib.ListN.{length, take}
 use lib.Seq.{take-length}

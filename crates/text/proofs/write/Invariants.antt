@@ -1,12 +1,8 @@
 -- `text::write` meets its contract. The invariant: the table has the piece's first i bytes at their place, and elsewhere what it had.
-use borrow.Author.Rules.{rules}
-use native.Mathlib.Omega.{arith}
-use Prim.Native.Nat.{ℕ, ◌≤◌, ◌-◌}
-use mathlib.Core.Path.{◌≡◌, refl, ap, ◌∙◌}
-use lib.ListN.{length, take}
-use lib.Seq.{take-length}
+use Prim.Native.Nat.{◌≤◌, ◌-◌}
+use mathlib.Core.Path.{◌≡◌}
+use lib.ListN.{take}
 use Rattle.text.specs.Line.{put}
-use Rattle.text.proofs.Put.{put_none, put_next, put_length_next}
 use Rattle.text.proofs.write.Given as goal
 
 abbrev pub invariant-loop-i : goal.invariant-loop-i

@@ -1,5 +1,4 @@
 -- `trial::answers_case` meets its contract: in each arm the sizes are known.
-use borrow.Author.Rules.{rules}
 use Rattle.trial.proofs.answers_case.Goals as goal
 
 pub returns-in-Both : goal.returns-in-Both

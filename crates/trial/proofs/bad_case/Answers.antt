@@ -3,7 +3,6 @@ use native.Mathlib.Omega.{arith}
 use mathlib.Core.Path.{sym}
 use lib.Seq.{length-take-le}
 use Rattle.text.proofs.Put.{input_line_short}
-use borrow.Author.Rules.{rules}
 use Rattle.trial.proofs.bad_case.Goals as goal
 
 pub slice_bounds-write_all-end : goal.slice_bounds-write_all-end

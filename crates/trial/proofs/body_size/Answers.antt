@@ -3,7 +3,6 @@ use native.Mathlib.Omega.{arith}
 use mathlib.Core.Path.{sym}
 use Rattle.trial.specs.Case.{size_of}
 use Rattle.trial.proofs.Cases.{judge_is, answers_is, shown_is, bytes_is, rounds_is}
-use borrow.Author.Rules.{rules}
 use Rattle.trial.proofs.body_size.Goals as goal
 
 pub overflow_add-result : goal.overflow_add-result

@@ -1,6 +1,5 @@
 -- `trial::bytes_case` meets its contract.
 use Rattle.trial.proofs.Cases.{bytes_few, bytes_over}
-use borrow.Author.Rules.{rules}
 use Rattle.trial.proofs.bytes_case.Goals as goal
 
 pub returns-then-n-le70000 : goal.returns-then-n-le70000

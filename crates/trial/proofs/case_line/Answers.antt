@@ -5,7 +5,6 @@ use lib.Seq.{length-take-le}
 use Rattle.text.proofs.Put.{wrote_is}
 use Rattle.trial.proofs.Cases.{judge_is, answers_is, shown_is, bytes_is, rounds_is}
 use Rattle.trial.proofs.Lines.{judge_line, answers_line_lem, shown_line_lem, bytes_line, rounds_line_lem, bad_line}
-use borrow.Author.Rules.{rules}
 use Rattle.trial.proofs.case_line.Goals as goal
 
 pub papers_at-requires : goal.papers_at-requires

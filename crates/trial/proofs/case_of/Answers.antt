@@ -3,7 +3,6 @@ use native.Mathlib.Omega.{arith}
 use mathlib.Core.Path.{ap, ◌∙◌}
 use Rattle.trial.specs.Case.{judge_case, answers_case}
 use Rattle.trial.proofs.Cases.{header_five, header_four, header_two, kind_one, kind_two, kind_three, kind_four, kind_five, kind_none}
-use borrow.Author.Rules.{rules}
 use Rattle.trial.proofs.case_of.Goals as goal
 
 pub sizes_at-requires : goal.sizes_at-requires

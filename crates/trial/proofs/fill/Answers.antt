@@ -1,10 +1,8 @@
 -- `trial::fill` meets its contract. The invariant: the table has x in its first i words, and from there on what it had.
 use native.Mathlib.Omega.{arith}
 use borrow.Author.Rules.{rules}
-use Prim.Native.Nat.{◌≤◌, ◌-◌}
-use mathlib.Core.Path.{◌≡◌, refl, ap, ◌∙◌}
+use mathlib.Core.Path.{refl, ap, ◌∙◌}
 use lib.ListN.{length}
-use Rattle.promise.specs.Place.{filled}
 use Rattle.promise.proofs.Place.{filled_none, filled_on, filled_length}
 use Rattle.trial.proofs.Lines.{filled_all}
 use Rattle.trial.proofs.fill.Goals as goal

@@ -3,7 +3,6 @@ use native.Mathlib.Omega.{arith}
 use mathlib.Core.Path.{sym}
 use lib.Seq.{length-take-le}
 use Rattle.trial.proofs.Cases.{header_few, case_fits}
-use borrow.Author.Rules.{rules}
 use Rattle.trial.proofs.one_case.Goals as goal
 
 pub read-requires : goal.read-requires

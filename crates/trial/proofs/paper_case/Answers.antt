@@ -1,5 +1,4 @@
 -- `trial::paper_case` meets its contract: in each arm the sizes are known.
-use borrow.Author.Rules.{rules}
 use Rattle.trial.proofs.paper_case.Goals as goal
 
 pub returns-in-Both : goal.returns-in-Both

@@ -5,7 +5,6 @@ use lib.ListN.{take}
 use lib.Seq.{length-take-le}
 use Rattle.trial.proofs.Cases.{size_few}
 use Rattle.trial.proofs.Lines.{case_line_short}
-use borrow.Author.Rules.{rules}
 use Rattle.trial.proofs.rest_of_case.Goals as goal
 
 pub read-requires : goal.read-requires

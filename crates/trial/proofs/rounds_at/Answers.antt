@@ -4,7 +4,6 @@ use mathlib.Core.Path.{sym}
 use lib.Seq.{length-take-le}
 use Rattle.printed.proofs.Read.{cut_part}
 use Rattle.trial.proofs.Lines.{first_part}
-use borrow.Author.Rules.{rules}
 use Rattle.trial.proofs.rounds_at.Goals as goal
 
 pub slice_bounds-rounds_line-end : goal.slice_bounds-rounds_line-end

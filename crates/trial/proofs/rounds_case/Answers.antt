@@ -1,7 +1,6 @@
 -- `trial::rounds_case` meets its contract: a table within the limit, or not.
 use mathlib.Core.Path.{◌∙◌}
 use Rattle.trial.proofs.Cases.{rounds_few, rounds_over}
-use borrow.Author.Rules.{rules}
 use Rattle.trial.proofs.rounds_case.Goals as goal
 
 pub returns-then-t-le32767 : goal.returns-then-t-le32767

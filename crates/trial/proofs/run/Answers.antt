@@ -1,8 +1,6 @@
 -- `trial::run` is safe and ends. The invariant: every table is as long as at the start. The measure is the number of turns that are left.
-use borrow.Author.Rules.{rules}
 use native.Mathlib.Omega.{arith}
-use lib.ListN.{length}
-use mathlib.Core.Path.{◌≡◌, ◌∙◌}
+use mathlib.Core.Path.{◌∙◌}
 use Rattle.trial.proofs.run.Goals as goal
 
 pub one_case-requires : goal.one_case-requires

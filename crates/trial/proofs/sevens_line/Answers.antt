@@ -1,6 +1,5 @@
 -- `trial::sevens_line` meets its contract: the table is lent as it was filled.
 use mathlib.Core.Path.{sym}
-use borrow.Author.Rules.{rules}
 use Rattle.trial.proofs.sevens_line.Goals as goal
 
 pub returns : goal.returns

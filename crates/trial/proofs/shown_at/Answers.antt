@@ -5,7 +5,6 @@ use lib.ListN.{length}
 use lib.Seq.{length-take-le}
 use Rattle.printed.proofs.Read.{cut_part}
 use Rattle.trial.proofs.Lines.{first_part, part_length}
-use borrow.Author.Rules.{rules}
 use Rattle.trial.proofs.shown_at.Goals as goal
 
 pub slice_bounds-shown_line-end : goal.slice_bounds-shown_line-end

@@ -1,7 +1,6 @@
 -- `trial::shown_case` meets its contract: a law for each paper, and for neither.
 use mathlib.Core.Path.{◌∙◌}
 use Rattle.trial.proofs.Cases.{shown_dossier, shown_certificate, shown_neither}
-use borrow.Author.Rules.{rules}
 use Rattle.trial.proofs.shown_case.Goals as goal
 
 pub returns-then-paper-eq0 : goal.returns-then-paper-eq0

@@ -1,6 +1,5 @@
 -- `trial::sizes_at` meets its contract.
 use Rattle.trial.proofs.Cases.{sizes_both, sizes_over}
-use borrow.Author.Rules.{rules}
 use Rattle.trial.proofs.sizes_at.Goals as goal
 
 pub returns-then-a-b-le32767 : goal.returns-then-a-b-le32767

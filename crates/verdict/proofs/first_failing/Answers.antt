@@ -1,14 +1,11 @@
 -- `verdict::first_failing` meets its contract. The invariant: the whole search is the search from j on.
-use Prim.Native.Nat.{◌-◌}
 use Rattle.meaning.specs.Rules.{line_follows}
 use Rattle.promise.specs.Layout.{dossier_at}
 use Rattle.promise.specs.Line.{line}
 use Rattle.promise.specs.Place.{many}
-use Rattle.verdict.proofs.Lowest.{From, from_start, from_next, from_fault, from_end}
+use Rattle.verdict.proofs.Lowest.{from_start, from_next, from_fault, from_end}
 use Rattle.verdict.proofs.Papers.{first_fit, first_starts, line_fits, line_at_lem}
 use Rattle.verdict.specs.Told.{as_fault}
-use borrow.Author.Rules.{rules}
-use borrow.Author.Tests.{not-true, not-false}
 use mathlib.Core.Path.{sym, ap, ◌∙◌}
 use native.Mathlib.Omega.{arith}
 use Rattle.verdict.proofs.first_failing.Goals as goal

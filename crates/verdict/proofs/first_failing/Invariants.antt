@@ -4,13 +4,7 @@ use Rattle.meaning.specs.Rules.{line_follows}
 use Rattle.promise.specs.Layout.{dossier_at}
 use Rattle.promise.specs.Line.{line}
 use Rattle.promise.specs.Place.{many}
-use Rattle.verdict.proofs.Lowest.{From, from_start, from_next, from_fault, from_end}
-use Rattle.verdict.proofs.Papers.{first_fit, first_starts, line_fits, line_at_lem}
-use Rattle.verdict.specs.Told.{as_fault}
-use borrow.Author.Rules.{rules}
-use borrow.Author.Tests.{not-true, not-false}
-use mathlib.Core.Path.{sym, ap, ◌∙◌}
-use native.Mathlib.Omega.{arith}
+use Rattle.verdict.proofs.Lowest.{From}
 use Rattle.verdict.proofs.first_failing.Given as goal
 
 abbrev pub invariant-loop-j : goal.invariant-loop-j

@@ -2,7 +2,6 @@
 use Rattle.promise.specs.Thing.{ok_of}
 use Rattle.verdict.proofs.Papers.{last_empty_lem, last_left}
 use Rattle.verdict.proofs.Papers.{line_ends}
-use borrow.Author.Rules.{rules}
 use Rattle.verdict.proofs.judge_last.Goals as goal
 
 pub line_at-v-requires : goal.line_at-v-requires

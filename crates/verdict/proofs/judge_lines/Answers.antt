@@ -1,7 +1,6 @@
 -- `verdict::judge_lines` meets its contract: it fills the table of the clauses, and either table has room for the lines.
 use Rattle.lines.proofs.Tables.{clauses_filled}
 use Rattle.verdict.proofs.Tables.{clauses_fit, rules_ready}
-use borrow.Author.Rules.{rules}
 use Rattle.verdict.proofs.judge_lines.Goals as goal
 
 pub starts-requires : goal.starts-requires

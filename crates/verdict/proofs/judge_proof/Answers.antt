@@ -5,7 +5,7 @@ use Rattle.lines.proofs.Tables.{lines_filled}
 use Rattle.verdict.proofs.Outcome.{line_below, proof_fails, proof_last}
 use Rattle.verdict.proofs.Papers.{line_fits, line_ends}
 use Rattle.verdict.proofs.Tables.{lines_fit}
-use borrow.Author.Rules.{rules, scaled_Fits}
+use borrow.Author.Rules.{scaled_Fits}
 use native.Mathlib.Omega.{arith}
 use Rattle.verdict.proofs.judge_proof.Goals as goal
 

@@ -1,6 +1,5 @@
 -- `verdict::judge_secret` meets its contract.
 use mathlib.Core.Path.{refl}
-use borrow.Author.Rules.{rules}
 use Rattle.promise.specs.Thing.{ok_of}
 use Rattle.promise.proofs.Step.{signs_agree, signs_differ}
 use Rattle.verdict.proofs.Outcome.{secret_kept_lem, secret_changed}

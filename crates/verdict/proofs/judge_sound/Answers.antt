@@ -3,7 +3,6 @@ use Rattle.evaluation.specs.Which.{WhichFits}
 use Rattle.lines.proofs.Tables.{creds_filled, probes_filled}
 use Rattle.verdict.proofs.Tables.{creds_fit, probes_fit, told_filled, own_aim, witness_there, proof_there, witness_judged, proof_judged}
 use mathlib.Core.Path.{refl}
-use borrow.Author.Rules.{rules}
 use Rattle.verdict.proofs.judge_sound.Goals as goal
 
 pub starts-requires : goal.starts-requires

@@ -1,6 +1,6 @@
 -- `verdict::judge_witness` meets its contract.
 use native.Mathlib.Omega.{arith}
-use borrow.Author.Rules.{rules, scaled_Fits}
+use borrow.Author.Rules.{scaled_Fits}
 use Rattle.promise.specs.Thing.{ok_of}
 use Rattle.evaluation.proofs.Entry.{probe_fits}
 use Rattle.verdict.proofs.Outcome.{probe_below, witness_differs, witness_alike}

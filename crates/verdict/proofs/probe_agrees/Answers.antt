@@ -1,7 +1,6 @@
 -- `verdict::probe_agrees` meets its contract: the two answers are compared as words.
 use Prim.Native.Nat.{ℕ}
 use mathlib.Core.Path.{ap, ◌∙◌}
-use borrow.Author.Rules.{rules}
 use lib.ListN.{get_or}
 use Rattle.meaning.specs.Tests.{◌is◌}
 use Rattle.promise.specs.Code.{bit}
