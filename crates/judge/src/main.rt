@@ -4,7 +4,7 @@
 ghost use Rattle.std.specs.Prelude.{◌≡◌, length, ◌+◌, ◌≤◌};
 
 use std::io;
-use std::io::{Input, Read, Write};
+use std::io::{Read, Write};
 
 // Room for the input, and for one byte more, so that too long an input is seen.
 fn input() -> [u8; 65537]
@@ -55,9 +55,9 @@ fn read_all<R: Read>(input: &mut R, room: &mut [u8]) -> usize
 
 fn main(rt: HostRuntime) -> io::Result<()> {
     let mut bytes = input();
-    let n = read_all(&mut rt.reader(), &mut bytes);
+    let n = read_all(&mut rt.stdin(), &mut bytes);
     let mut table = room();
     let mut out = blank();
     let k = printed::stdin_line(&bytes[..n], &mut table, &mut out);
-    io::writer(&rt).write_all(&out[..k])
+    rt.stdout().write_all(&out[..k])
 }

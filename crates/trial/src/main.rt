@@ -9,8 +9,7 @@ ghost use Rattle.trial.specs.Case.{header_of, sizes_at, judge_case, answers_case
 ghost use Rattle.trial.specs.Line.{case_line, Room};
 
 use reply::Paper;
-use std::io;
-use std::io::{Input, Print, Read, Write};
+use std::io::{Read, Write};
 
 // What a case asks for: the judge's line, for so many words of the dossier and of the certificate; the answers' line, for so
 // many of the table and of the dossier; the line of shown words, by paper, place and count, for so many words of the dossier
@@ -382,8 +381,8 @@ fn main(rt: HostRuntime) {
     let mut table = room();
     let mut out = blank();
     run(
-        &mut rt.reader(),
-        &mut io::writer(&rt),
+        &mut rt.stdin(),
+        &mut rt.stdout(),
         &mut bytes,
         &mut words,
         &mut table,
