@@ -1,5 +1,5 @@
 -- A part of lent words: 'the lent words themselves, so many from that place; where they don't fit the paper, the empty part at its end'.
--- A reference s to words has its pointer, `ptr s`, and the words that lie there, `now s`. A part of them is told by both: `part_of` has its words, and `part_at` its pointer.
+-- A reference s to words has its pointer, `s.ref_ptr`, and the words that lie there, `s.now`. A part of them is told by both: `part_of` has its words, and `part_at` its pointer.
 use Rattle.std.specs.Prelude.{ℕ, ◌+◌, ◌*◌, List, [], Bool, cond, length, take, drop, leb}
 use Rattle.std.specs.Borrow.{Bor}
 
