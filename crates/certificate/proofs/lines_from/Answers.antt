@@ -1,4 +1,4 @@
--- `certificate::lines_from` meets its contract. The invariant: the lines left to read from p on answer as all of them do.
+-- `certificate::lines_from` meets its contract.
 use mathlib.Core.Path.{refl, sym, ◌∙◌}
 use Rattle.words.proofs.Steps.{refused, passed, times_none, times_bad, times_on}
 use Rattle.certificate.proofs.lines_from.Goals as goal

@@ -1,4 +1,4 @@
--- `certificate::lines_from` meets its contract. The invariant: the lines left to read from p on answer as all of them do.
+-- The invariant: the lines left to read from p on answer as all of them do.
 use mathlib.Core.Path.{◌≡◌}
 use Rattle.words.specs.Read.{times}
 use Rattle.words.specs.Answer.{as_step}

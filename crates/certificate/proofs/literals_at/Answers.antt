@@ -1,4 +1,4 @@
--- `certificate::literals_at` meets its contract. The invariant: the literals read so far are those seen from the start, and the rest answers as all do.
+-- `certificate::literals_at` meets its contract.
 use mathlib.Core.Path.{sym}
 use Rattle.certificate.proofs.Several.{state_first, state_none, state_bad, state_on}
 use Rattle.certificate.proofs.literals_at.Goals as goal

@@ -1,4 +1,4 @@
--- `certificate::literals_at` meets its contract. The invariant: the literals read so far are those seen from the start, and the rest answers as all do.
+-- The invariant: the literals read so far are those seen from the start, and the rest answers as all do.
 use Prim.Native.Nat.{◌-◌}
 use Rattle.certificate.proofs.Several.{State}
 use Rattle.certificate.proofs.literals_at.Given as goal

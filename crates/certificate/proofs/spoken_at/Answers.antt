@@ -1,4 +1,4 @@
--- `certificate::spoken_at` meets its contract. The invariant: the literals left to look at answer as all of them do.
+-- `certificate::spoken_at` meets its contract.
 use mathlib.Core.Path.{refl, sym, ap, ◌∙◌}
 use Rattle.promise.specs.Line.{literal}
 use Rattle.promise.specs.declared.LiteralAt.{LiteralAt}
@@ -14,7 +14,8 @@ pub literal_at-x-requires : goal.literal_at-x-requires
 literal_at-x-requires c = fit_first literal _ _ _ c.loop-unseen-test.true c.loop-unseen.invariant.0
 
 pub same_said-requires : goal.same_said-requires
-same_said-requires c = let a = c.args in
+same_said-requires c =
+    let a = c.args in
     let x = held a.s.now c.loop-unseen.at c.literal_at-x.ensures (fit_first literal _ _ _ c.loop-unseen-test.true c.loop-unseen.invariant.0) in
     let l = held a.s.now a.p c.literal_at-l.ensures c.requires.1 in
     (x, l)
@@ -23,7 +24,8 @@ pub returns-then-same_said : goal.returns-then-same_said
 returns-then-same_said c = sym (c.loop-unseen.invariant.1 ∙ spoken_yes _ _ _ _ c.loop-unseen-test.true (rw (c.literal_at-l.ensures, c.literal_at-x.ensures) at c.same_said.ensures) c.if-same_said.true)
 
 pub loop-unseen-preserved : goal.loop-unseen-preserved
-loop-unseen-preserved c = let a = c.args in
+loop-unseen-preserved c =
+    let a = c.args in
     let x = c.literal_at-x.ensures in
     rw (ap (λ (v : LiteralAt). v.next) x) (
       fit_on literal a.s.now c.loop-unseen.at c.loop-unseen.unseen c.loop-unseen-test.true c.loop-unseen.invariant.0,

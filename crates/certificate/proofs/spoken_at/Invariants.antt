@@ -1,4 +1,4 @@
--- `certificate::spoken_at` meets its contract. The invariant: the literals left to look at answer as all of them do.
+-- The invariant: the literals left to look at answer as all of them do.
 use mathlib.Core.Path.{◌≡◌}
 use Rattle.promise.specs.Place.{many, Fit}
 use Rattle.promise.specs.Line.{literal_at, said_of, literal}

@@ -23,7 +23,8 @@ returns-in-Stop c = sym (step_bad (simp ((passed _ c.list_at.ensures c.in-Next.i
 
 pub returns-in-Word : goal.returns-in-Word
 unfolding read.statement
-returns-in-Word c = let S = passed _ c.list_at.ensures c.in-Next.is in
+returns-in-Word c =
+    let S = passed _ c.list_at.ensures c.in-Next.is in
     let X = passed _ c.list_at-in-Next.ensures c.in-Next-list_at.is in
     let a = read_word _ _ _ _ _ c.word_in.ensures c.in-Word.is in
     let v : Statement = record { creds = S.0; atoms = X.0; atom = c.in-Word.field-0 } in

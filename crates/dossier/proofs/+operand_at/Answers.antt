@@ -1,4 +1,4 @@
--- `dossier::operand_at` meets its contract: by the depth left, the length, and the kind of the word. The measure is the depth left.
+-- `dossier::operand_at` meets its contract: by the depth left, the length, and the kind of the word.
 use mathlib.Core.Path.{sym, ◌∙◌}
 use Rattle.words.proofs.Steps.{refused, passed}
 use Rattle.dossier.proofs.Operand.{op_deep, op_past, op_atom, op_strange, op_true, op_not, op_bad, op_both}

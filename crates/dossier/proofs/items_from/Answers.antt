@@ -1,4 +1,4 @@
--- `dossier::items_from` meets its contract. The invariant: the items left to read from p on answer as all of them do.
+-- `dossier::items_from` meets its contract.
 use Rattle.dossier.proofs.Sections.{items_none, items_bad, items_on}
 use mathlib.Core.Path.{refl, sym, ◌∙◌}
 use Rattle.dossier.proofs.items_from.Goals as goal

@@ -1,4 +1,4 @@
--- `dossier::items_from` meets its contract. The invariant: the items left to read from p on answer as all of them do.
+-- The invariant: the items left to read from p on answer as all of them do.
 use Rattle.dossier.specs.Found.{items_step}
 use mathlib.Core.Path.{◌≡◌}
 use Rattle.dossier.proofs.items_from.Given as goal

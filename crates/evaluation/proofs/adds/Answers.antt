@@ -1,4 +1,4 @@
--- `evaluation::adds` meets its contract. The invariant: no byte before i is the round's number.
+-- `evaluation::adds` meets its contract.
 use native.Mathlib.Omega.{arith}
 use borrow.Author.Count.{below_more}
 use Rattle.evaluation.proofs.Rounds.{some_is, none_is}

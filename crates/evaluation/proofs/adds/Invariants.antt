@@ -1,4 +1,4 @@
--- `evaluation::adds` meets its contract. The invariant: no byte before i is the round's number.
+-- The invariant: no byte before i is the round's number.
 use Prim.Native.Nat.{ℕ, ◌-◌, ◌<◌}
 use mathlib.Core.Path.{◌≡◌}
 use lib.ListN.{length, get_or}

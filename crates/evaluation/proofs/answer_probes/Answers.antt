@@ -1,5 +1,4 @@
--- `evaluation::answer_probes` meets its contract. The invariant: the table has the answers of the probes passed, and is as it was from there on; what holds at
--- the last of them is held.
+-- `evaluation::answer_probes` meets its contract.
 use Prim.Native.Nat.{ℕ}
 use mathlib.Core.Path.{◌≡◌, refl, ap, subst, ◌∙◌}
 use native.Mathlib.Omega.{arith}
@@ -35,16 +34,19 @@ pub answer_in-requires : goal.answer_in-requires
 answer_in-requires c = probe_reads c.requires.0 c.requires.1 _ c.loop-i-test.true c.known-t.ensures
 
 pub bounds-table-i : goal.bounds-table-i
-bounds-table-i c = let e = ap length c.loop-i.invariant.1 ∙ filled_length _ _ _ (omega (arith, c.requires.2)) in
+bounds-table-i c =
+    let e = ap length c.loop-i.invariant.1 ∙ filled_length _ _ _ (omega (arith, c.requires.2)) in
     omega (arith, e, c.requires.2)
 
 pub loop-i-preserved : goal.loop-i-preserved
-loop-i-preserved c = let a = c.args in
+loop-i-preserved c =
+    let a = c.args in
     let said = c.answer_in.ensures ∙ probe_says c.requires.0 c.requires.1 _ c.loop-i-test.true c.known-t.ensures in
     let word = probe_word a.d.now a.o a.probes.now c.requires.1 c.loop-i.i c.loop-i-test.true a.w.now c.word_of.ensures said in
     (search rules, ap (set c.loop-i.table c.loop-i.i) word ∙ filled_on (answer_word a.d.now a.o) c.loop-i.i a.table.now c.loop-i.invariant.1 refl (omega (arith, c.requires.2)), probe_held c.requires.0 c.requires.1 _ c.loop-i-test.true c.known-t.ensures)
 
 pub returns : goal.returns
-returns c = let a = c.args in
+returns c =
+    let a = c.args in
     let e : c.loop-i.i ≡ a.o.nprobes = omega arith in
     (c.loop-i.invariant.1 ∙ ap (λ (n : ℕ). filled (answer_word a.d.now a.o) n a.table.now) e, subst (λ (n : ℕ). Held a.d.now a.o a.w.now Own (last_of a.probes.now n) c.loop-i.held) e c.loop-i.invariant.2)

@@ -1,5 +1,4 @@
--- `evaluation::answer_probes` meets its contract. The invariant: the table has the answers of the probes passed, and is as it was from there on; what holds at
--- the last of them is held.
+-- The invariant: the table has the answers of the probes passed, and is as it was from there on; what holds at the last of them is held.
 use Prim.Native.Nat.{◌≤◌, ◌-◌}
 use mathlib.Core.Path.{◌≡◌}
 use Rattle.promise.specs.Place.{filled}

@@ -1,4 +1,4 @@
--- `evaluation::body_holds` meets its contract. The invariant: what is left of the body answers as the whole does.
+-- The invariant: what is left of the body answers as the whole does.
 use Prim.Native.Nat.{ℕ, ◌+◌, ◌≤◌, ◌<◌}
 use Rattle.evaluation.specs.Table.{before}
 use Rattle.meaning.specs.Tests.{◌∈◌, all}

@@ -10,6 +10,7 @@ pub fire-requires : goal.fire-requires
 fire-requires c = fires c.clause_at-c.ensures c.requires
 
 pub returns : goal.returns
-returns c = let a = c.args in
+returns c =
+    let a = c.args in
     let e = c.clause_at-c.ensures in
     (ap (λ (v : ClauseAt). v.next) e, c.fire.ensures ∙ ap (λ (v : ClauseAt). fire_one a.round (clause_of a.s.now v) a.table.now) e)

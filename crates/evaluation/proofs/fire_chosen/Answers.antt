@@ -1,4 +1,4 @@
--- `evaluation::fire_chosen` meets its contract. The invariant: firing what is left on the table so far is firing all.
+-- `evaluation::fire_chosen` meets its contract.
 use native.Mathlib.Omega.{arith}
 use mathlib.Core.Path.{refl}
 use Rattle.evaluation.proofs.Firing.{left_all, left_first, left_on, left_none}
@@ -8,7 +8,8 @@ pub loop-left-init : goal.loop-left-init
 loop-left-init c = left_all _ _ _ _ _ _ c.requires
 
 pub fire_named-requires : goal.fire_named-requires
-fire_named-requires c = let turn = c.loop-left in
+fire_named-requires c =
+    let turn = c.loop-left in
     rw turn.invariant.size (left_first _ _ _ _ _ _ turn.invariant c.loop-left-test.true)
 
 pub overflow_add-place : goal.overflow_add-place

@@ -1,4 +1,4 @@
--- `evaluation::fire_clauses` meets its contract. The invariant: firing what is left on the table so far is firing all.
+-- The invariant: firing what is left on the table so far is firing all.
 use lib.ListN.{length}
 use Rattle.evaluation.proofs.Firing.{firing, Left}
 use Rattle.promise.specs.Clause.{credential}

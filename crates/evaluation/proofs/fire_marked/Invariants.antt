@@ -1,4 +1,4 @@
--- `evaluation::fire_marked` meets its contract. The invariant: firing what is left on the table so far is firing all.
+-- The invariant: firing what is left on the table so far is firing all.
 use lib.ListN.{length}
 use Rattle.evaluation.proofs.Firing.{keeping, Left}
 use Rattle.promise.specs.Clause.{marked}

@@ -14,7 +14,8 @@ fire_if-requires c = fires (ap (λ (v : MarkedAt). v.clause) c.marked_at-m.ensur
 
 pub returns : goal.returns
 unfolding fire_marked
-returns c = let a = c.args in
+returns c =
+    let a = c.args in
     let e = c.marked_at-m.ensures in
     let v = c.marked_at-m.result in
     (ap (λ (m : MarkedAt). m.clause.next) e, c.fire_if.ensures ∙ ap (λ (b : Bool). choose b (fire_one a.round (clause_of a.s.now v.clause) a.table.now) a.table.now) c.either.ensures ∙ ap (λ (m : MarkedAt). fire_marked a.every a.round (marked_of a.s.now m) a.table.now) e)

@@ -10,5 +10,6 @@ pub fire_at-requires : goal.fire_at-requires
 fire_at-requires c = rw c.word-i.ensures.0 c.requires.fits
 
 pub returns : goal.returns
-returns c = let a = c.args in
+returns c =
+    let a = c.args in
     c.fire_at.ensures.1 ∙ ap (λ (i : ℕ). fire_one a.round (clause_of a.d.now (clause_at a.d.now (get_or a.creds.now i 0))) a.table.now) c.word-i.ensures.0

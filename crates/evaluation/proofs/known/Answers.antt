@@ -10,12 +10,14 @@ unfolding Held
 alike-requires c = (λ n. (c.requires.1 n).0.ends, (sources c.requires.0 c.requires.2 c.entry_at-e.ensures).there)
 
 pub returns-then-alike : goal.returns-then-alike
-returns-then-alike c = let a = c.args in
+returns-then-alike c =
+    let a = c.args in
     held_alike a.d.now a.o a.w.now a.which _ _ _ c.requires.1 c.entry_at-e.ensures c.alike.ensures c.if-alike.true
 
 pub first_rounds-requires : goal.first_rounds-requires
 first_rounds-requires c = sources c.requires.0 c.requires.2 c.entry_at-e.ensures
 
 pub returns : goal.returns
-returns c = let a = c.args in
+returns c =
+    let a = c.args in
     c.first_rounds.ensures ∙ ap (λ (e : EntryAt). table_of a.d.now a.o a.w.now a.which e) c.entry_at-e.ensures

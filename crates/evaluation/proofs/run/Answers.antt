@@ -1,5 +1,4 @@
--- `evaluation::run` meets its contract. The invariant: the table has, for each atom, the number of the round so far that first adds it.
--- Where a round adds no atom, these are the numbers of all rounds.
+-- `evaluation::run` meets its contract. Where a round adds no atom, the numbers so far are those of all rounds.
 use mathlib.Core.Path.{sym, ap, ◌∙◌}
 use native.Mathlib.Omega.{arith}
 use borrow.Author.Rules.{rules}

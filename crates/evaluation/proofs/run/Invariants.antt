@@ -1,5 +1,4 @@
--- `evaluation::run` meets its contract. The invariant: the table has, for each atom, the number of the round so far that first adds it.
--- Where a round adds no atom, these are the numbers of all rounds.
+-- The invariant: the table has, for each atom, the number of the round so far that first adds it.
 use Prim.Native.Nat.{◌-◌, ◌≤◌}
 use mathlib.Core.Path.{◌≡◌}
 use Rattle.meaning.specs.Policy.{first_of}

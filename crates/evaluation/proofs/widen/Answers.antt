@@ -1,4 +1,4 @@
--- `evaluation::widen` meets its contract. The invariant: the table begins with the numbers before i and is as it was from there on.
+-- `evaluation::widen` meets its contract.
 use mathlib.Core.Path.{◌≡◌, refl, ap, ◌∙◌}
 use native.Mathlib.Omega.{arith}
 use borrow.Author.Rules.{rules}
@@ -17,5 +17,6 @@ pub loop-i-preserved : goal.loop-i-preserved
 loop-i-preserved c = (search rules, filled_on _ _ _ c.loop-i.invariant.1 refl (omega (arith, c.requires, c.loop-i-test.true)))
 
 pub returns : goal.returns
-returns c = let all : c.loop-i.i ≡ length c.args.src.now = omega (arith, c.loop-i.invariant.0) in
+returns c =
+    let all : c.loop-i.i ≡ length c.args.src.now = omega (arith, c.loop-i.invariant.0) in
     widened c.args.src.now c.args.dst.now _ c.loop-i.invariant.1 all

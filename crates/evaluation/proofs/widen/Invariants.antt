@@ -1,4 +1,4 @@
--- `evaluation::widen` meets its contract. The invariant: the table begins with the numbers before i and is as it was from there on.
+-- The invariant: the table begins with the numbers before i and is as it was from there on.
 use Prim.Native.Nat.{◌-◌, ◌≤◌}
 use mathlib.Core.Path.{◌≡◌}
 use lib.ListN.{length, get_or}

@@ -8,7 +8,8 @@ pub judge_with-requires : goal.judge_with-requires
 judge_with-requires c = dossier_sound_lem c.args.dossier.now c.dossier.ensures c.in-Sound.is
 
 pub returns-in-Refused : goal.returns-in-Refused
-returns-in-Refused c = let a = c.args in
+returns-in-Refused c =
+    let a = c.args in
     replied_row a.dossier.now a.certificate.now a.rounds.now
     (judge_refused a.dossier.now a.certificate.now a.rounds.now (dossier_refused a.dossier.now c.dossier.ensures c.in-Refused.is) c.refused.ensures)
 

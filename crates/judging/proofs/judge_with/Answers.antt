@@ -4,9 +4,11 @@ use Rattle.judging.proofs.Sound.{certificate_sound_lem, certificate_refused}
 use Rattle.judging.proofs.judge_with.Goals as goal
 
 pub judge_papers-requires : goal.judge_papers-requires
-judge_papers-requires c = let a = c.args in
+judge_papers-requires c =
+    let a = c.args in
     (c.requires, certificate_sound_lem a.o.atoms a.o.ncreds a.c.now c.certificate.ensures c.in-Sound.is)
 
 pub returns-in-Refused : goal.returns-in-Refused
-returns-in-Refused c = let a = c.args in
+returns-in-Refused c =
+    let a = c.args in
     judge_unsound a.d.now a.c.now a.rounds.now a.o c.requires (certificate_refused a.o.atoms a.o.ncreds a.c.now c.certificate.ensures c.in-Refused.is) c.refused.ensures

@@ -1,4 +1,4 @@
--- `lines::value_at` meets its contract, by its first word. The measure is the depth that is left.
+-- `lines::value_at` meets its contract, by its first word.
 use native.Mathlib.Omega.{arith}
 use Rattle.promise.proofs.Formula.{deep, fits_here, fits_one, fits_two, read_atom, read_joined, read_not, read_true}
 use Rattle.lines.specs.Tri.{supposing}

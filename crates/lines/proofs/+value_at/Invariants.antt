@@ -1,4 +1,4 @@
--- `lines::value_at` meets its contract, by its first word. The measure is the depth that is left.
+-- The measure is the depth that is left.
 use Rattle.lines.proofs.+value_at.Given as goal
 
 abbrev pub decreases-value_at : goal.decreases-value_at

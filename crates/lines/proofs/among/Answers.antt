@@ -1,4 +1,4 @@
--- `lines::among` meets its contract. The invariant: x is among them exactly if it is among those that are left.
+-- `lines::among` meets its contract.
 use mathlib.Core.Path.{◌∙◌, refl, sym}
 use native.Mathlib.Omega.{arith}
 use Rattle.meaning.specs.Tests.{mem}

@@ -1,4 +1,4 @@
--- `lines::among` meets its contract. The invariant: x is among them exactly if it is among those that are left.
+-- The invariant: x is among them exactly if it is among those that are left.
 use Prim.Native.Nat.{◌+◌, ◌≤◌}
 use mathlib.Core.Path.{◌≡◌}
 use lib.ListN.{length}

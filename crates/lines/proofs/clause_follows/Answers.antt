@@ -18,7 +18,8 @@ pub marked_at-m-requires : goal.marked_at-m-requires
 marked_at-m-requires c = (thing_ok (marked _) _ _ _ _ _ c.requires.1 c.requires.0.clauses c.pick.ensures c.in-At.is).ends
 
 pub clause_holds-requires : goal.clause_holds-requires
-clause_holds-requires c = let f = thing_ok (marked _) _ _ _ _ _ c.requires.1 c.requires.0.clauses c.pick.ensures c.in-At.is in
+clause_holds-requires c =
+    let f = thing_ok (marked _) _ _ _ _ _ c.requires.1 c.requires.0.clauses c.pick.ensures c.in-At.is in
     (rw c.marked_at-m.ensures f.ends, c.requires.2, literal_held _ _ c.literal_nth.ensures c.in-Is.is)
 
 pub returns : goal.returns

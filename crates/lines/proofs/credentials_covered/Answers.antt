@@ -1,4 +1,4 @@
--- `lines::credentials_covered` meets its contract. The invariant: it is so of each exactly if it is so of each that is left.
+-- `lines::credentials_covered` meets its contract.
 use mathlib.Core.Path.{◌∙◌, ap, refl, sym}
 use native.Mathlib.Omega.{arith}
 use Rattle.promise.proofs.Place.{part_cons, part_none}

@@ -1,4 +1,4 @@
--- `lines::credentials_covered` meets its contract. The invariant: it is so of each exactly if it is so of each that is left.
+-- The invariant: it is so of each exactly if it is so of each that is left.
 use Prim.Native.Nat.{◌+◌, ◌≤◌}
 use mathlib.Core.Path.{◌≡◌}
 use lib.ListN.{length}

@@ -1,4 +1,4 @@
--- `lines::is_in` meets its contract. The invariant: l is among the literals exactly if it is among those that are left.
+-- `lines::is_in` meets its contract.
 use mathlib.Core.Path.{◌∙◌, refl, sym}
 use Rattle.meaning.specs.Rules.{is_in}
 use Rattle.promise.proofs.Place.{fit_first, many_none}

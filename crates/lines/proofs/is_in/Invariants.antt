@@ -1,4 +1,4 @@
--- `lines::is_in` meets its contract. The invariant: l is among the literals exactly if it is among those that are left.
+-- The invariant: l is among the literals exactly if it is among those that are left.
 use mathlib.Core.Path.{◌≡◌}
 use Rattle.meaning.specs.Rules.{is_in}
 use Rattle.promise.specs.Line.{literal, literal_of}

@@ -1,4 +1,4 @@
--- `lines::others_in` meets its contract. The invariant: each but number i is in v exactly if each that is left but number x is.
+-- `lines::others_in` meets its contract.
 use mathlib.Core.Path.{◌∙◌, refl, sym}
 use Rattle.promise.proofs.Place.{fit_first, many_none}
 use Rattle.promise.specs.Line.{literal}

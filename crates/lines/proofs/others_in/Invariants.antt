@@ -1,4 +1,4 @@
--- `lines::others_in` meets its contract. The invariant: each but number i is in v exactly if each that is left but number x is.
+-- The invariant: each but number i is in v exactly if each that is left but number x is.
 use mathlib.Core.Path.{◌≡◌}
 use Rattle.meaning.specs.Rules.{is_in, others}
 use Rattle.meaning.specs.Tests.{all}

@@ -18,7 +18,8 @@ pub word-requires : goal.word-requires
 word-requires c = omega (arith, (row_found _ _ _ c.pick.ensures c.in-At.is).0, c.requires.2)
 
 pub entry_gives-requires : goal.entry_gives-requires
-entry_gives-requires c = let f = thing_ok (entry _ _) _ _ _ _ _ c.requires.1 c.requires.0.probes c.pick.ensures c.in-At.is in
+entry_gives-requires c =
+    let f = thing_ok (entry _ _) _ _ _ _ _ c.requires.1 c.requires.0.probes c.pick.ensures c.in-At.is in
     (f.ends, (_, f.formula), c.requires.4)
 
 pub returns : goal.returns

@@ -21,7 +21,8 @@ pub line_at-b-requires : goal.line_at-b-requires
 line_at-b-requires c = (thing_ok line _ _ _ _ _ c.requires.0 c.requires.1 c.pick-2.ensures c.in-At-pick.is).head
 
 pub resolve_lines-requires : goal.resolve_lines-requires
-resolve_lines-requires c = let a = thing_ok line _ _ _ _ _ c.requires.0 c.requires.1 c.pick.ensures c.in-At.is in
+resolve_lines-requires c =
+    let a = thing_ok line _ _ _ _ _ c.requires.0 c.requires.1 c.pick.ensures c.in-At.is in
     let b = thing_ok line _ _ _ _ _ c.requires.0 c.requires.1 c.pick-2.ensures c.in-At-pick.is in
     (c.requires.2, rw c.line_at-a.ensures a.literals, rw c.line_at-b.ensures b.literals)
 

@@ -1,4 +1,4 @@
--- `lines::same_without` meets its contract. The invariant: what is left of both lists lies within the words, and decides.
+-- `lines::same_without` meets its contract.
 use mathlib.Core.Path.{◌∙◌, refl, sym}
 use native.Mathlib.Omega.{arith}
 use Rattle.promise.proofs.Place.{part_cons, part_none}

@@ -1,4 +1,4 @@
--- `lines::same_without` meets its contract. The invariant: what is left of both lists lies within the words, and decides.
+-- The invariant: what is left of both lists lies within the words, and decides.
 use Prim.Native.Nat.{◌+◌, ◌≤◌}
 use mathlib.Core.Path.{◌≡◌}
 use lib.ListN.{length}

@@ -1,4 +1,4 @@
--- `lines::supposed_at` meets its contract. The invariant: the literals that are left give the statement its value.
+-- `lines::supposed_at` meets its contract.
 use mathlib.Core.Path.{◌∙◌, ap, refl, sym}
 use Rattle.promise.proofs.Place.{fit_first, many_none}
 use Rattle.promise.specs.Line.{literal}

@@ -1,4 +1,4 @@
--- `lines::supposed_at` meets its contract. The invariant: the literals that are left give the statement its value.
+-- The invariant: the literals that are left give the statement its value.
 use mathlib.Core.Path.{◌≡◌}
 use Rattle.meaning.specs.Rules.{supposed}
 use Rattle.promise.specs.Line.{literal, said_of}

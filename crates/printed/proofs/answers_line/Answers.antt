@@ -10,7 +10,8 @@ pub list-requires : goal.list-requires
 list-requires c = omega (arith, c.requires, head_short c.answers-answer.result, c.answers-answer.auto.table)
 
 pub returns : goal.returns
-returns c = let t = c.args.out.now in
+returns c =
+    let t = c.args.out.now in
     let k = row_kept _ _ (c.answers-answer.ensures []) in
     let w = wrote_is t _ (wrote_more t _ _ c.answers_head-p.ensures c.list.ensures) (answers_line_is c.args.dossier.now c.args.table.now k.0 k.1) in
     (w.0, w.1, k.1)

@@ -12,6 +12,7 @@ write-requires c = omega (arith, c.requires, spaced_all_short c.args.words.now)
 
 pub returns : goal.returns
 unfolding list_of
-returns c = let t = c.args.out.now in
+returns c =
+    let t = c.args.out.now in
     let h : c.args.at ≤ length t = omega (arith, c.requires) in
     placed_more t c.args.at h _ _ (placed_more t c.args.at h _ _ c.write-p.ensures c.spaced_words-q.ensures) c.write.ensures

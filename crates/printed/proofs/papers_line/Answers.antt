@@ -5,6 +5,7 @@ use Rattle.judging.proofs.Table.{row_replied}
 use Rattle.printed.proofs.papers_line.Goals as goal
 
 pub returns : goal.returns
-returns c = let a = c.args in
+returns c =
+    let a = c.args in
     let e = (row_replied _ _ _ c.judge.ensures).0 ∙ ap (judge_of a.dossier.now a.certificate.now) (sym c.lent-rounds.ensures) in
     rw (sym e) c.line.ensures

@@ -1,4 +1,4 @@
--- `printed::spaced_words` meets its contract. The invariant: the first i words are written, and p is the place after them.
+-- `printed::spaced_words` meets its contract.
 use native.Mathlib.Omega.{arith}
 use borrow.Author.Rules.{rules}
 use Rattle.printed.proofs.Lists.{spaced_none, spaced_on, spaced_room, spaced_whole}

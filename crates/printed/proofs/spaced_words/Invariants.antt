@@ -1,4 +1,4 @@
--- `printed::spaced_words` meets its contract. The invariant: the first i words are written, and p is the place after them.
+-- The invariant: the first i words are written, and p is the place after them.
 use Prim.Native.Nat.{◌≤◌, ◌-◌}
 use lib.ListN.{take}
 use Rattle.text.proofs.Put.{Placed}

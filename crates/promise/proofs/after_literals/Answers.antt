@@ -1,4 +1,4 @@
--- `promise::after_literals` meets its contract. The invariant: `at` is where literal i begins.
+-- `promise::after_literals` meets its contract.
 use mathlib.Core.Path.{◌≡◌, refl, ap, ◌∙◌}
 use native.Mathlib.Omega.{arith}
 use borrow.Author.Rules.{rules}
@@ -17,7 +17,8 @@ unfolding Fit
 literal_at-l-requires c = rw c.loop-i.invariant.1 (c.requires _ c.loop-i-test.true)
 
 pub loop-i-preserved : goal.loop-i-preserved
-loop-i-preserved c = let a = c.args in
+loop-i-preserved c =
+    let a = c.args in
     (search rules, place_on (literal.next a.s.now) a.p c.loop-i.i c.loop-i.invariant.1 (ap (λ (v : LiteralAt). v.next) c.literal_at-l.ensures))
 
 pub returns : goal.returns

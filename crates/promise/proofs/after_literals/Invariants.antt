@@ -1,4 +1,4 @@
--- `promise::after_literals` meets its contract. The invariant: `at` is where literal i begins.
+-- The invariant: `at` is where literal i begins.
 use Prim.Native.Nat.{◌≤◌, ◌-◌}
 use mathlib.Core.Path.{◌≡◌}
 use Rattle.promise.specs.Place.{place}

@@ -7,7 +7,8 @@ use Rattle.promise.specs.Line.{atoms_at}
 use Rattle.promise.proofs.literal_at.Goals as goal
 
 pub word-requires-2 : goal.word-requires-2
-word-requires-2 c = let a = c.args in
+word-requires-2 c =
+    let a = c.args in
     let h : c.word-m.result ≡ get_or a.s.now (atoms_at a.s.now a.p) 0 = cc (c.word-n.ensures.0, c.word-m.ensures.0) in
     omega arith
 

@@ -1,4 +1,4 @@
--- `promise::same_words` meets its contract. The invariant: what is left of both lists is as long, and decides.
+-- `promise::same_words` meets its contract.
 use mathlib.Core.Path.{◌∙◌, sym}
 use native.Mathlib.Omega.{arith}
 use Rattle.promise.proofs.Place.{part_cons, part_none}

@@ -1,4 +1,4 @@
--- `promise::same_words` meets its contract. The invariant: what is left of both lists is as long, and decides.
+-- The invariant: what is left of both lists is as long, and decides.
 use Prim.Native.Nat.{◌+◌, ◌≤◌}
 use mathlib.Core.Path.{◌≡◌}
 use lib.ListN.{length}

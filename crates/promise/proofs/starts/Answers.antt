@@ -1,4 +1,4 @@
--- `promise::starts` meets its contract. The invariant: `at` is where thing i begins, and the table has where each before it does.
+-- `promise::starts` meets its contract.
 use Prim.Native.Nat.{ℕ}
 use mathlib.Core.Path.{◌≡◌, refl, ap, ◌∙◌}
 use native.Mathlib.Omega.{arith}
@@ -21,10 +21,12 @@ unfolding FitOf
 next_at-at-requires c = rw c.loop-i.invariant.1 (c.requires.0 _ c.loop-i-test.true)
 
 pub loop-i-preserved : goal.loop-i-preserved
-loop-i-preserved c = let a = c.args in
+loop-i-preserved c =
+    let a = c.args in
     (search rules, place_on (next_of a.thing a.s.now) a.p c.loop-i.i c.loop-i.invariant.1 c.next_at-at.ensures, filled_on _ _ _ c.loop-i.invariant.2 c.loop-i.invariant.1 (omega (arith, c.requires.1)))
 
 pub returns : goal.returns
-returns c = let a = c.args in
+returns c =
+    let a = c.args in
     let e : c.loop-i.i ≡ a.k = omega arith in
     c.loop-i.invariant.2 ∙ ap (λ (n : ℕ). filled (place (next_of a.thing a.s.now) a.p) n a.table.now) e

@@ -1,4 +1,4 @@
--- `promise::starts` meets its contract. The invariant: `at` is where thing i begins, and the table has where each before it does.
+-- The invariant: `at` is where thing i begins, and the table has where each before it does.
 use Prim.Native.Nat.{◌≤◌, ◌-◌}
 use mathlib.Core.Path.{◌≡◌}
 use Rattle.promise.specs.Place.{place, filled}

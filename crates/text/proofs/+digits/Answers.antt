@@ -1,4 +1,4 @@
--- `text::digits` meets its contract. The measure is the room that is left.
+-- `text::digits` meets its contract.
 use native.Mathlib.Nat.{mod-lt}
 use Rattle.text.proofs.Put.{write_none, write_one, write_room, write_last}
 use native.Mathlib.Omega.{arith}

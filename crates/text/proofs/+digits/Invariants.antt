@@ -1,4 +1,4 @@
--- `text::digits` meets its contract. The measure is the room that is left.
+-- The measure is the room that is left.
 use Rattle.text.proofs.+digits.Given as goal
 
 abbrev pub decreases-digits : goal.decreases-digits

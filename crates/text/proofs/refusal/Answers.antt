@@ -19,7 +19,8 @@ digits-requires c = omega (arith, digits_short 20 c.args.number, name_short c.ar
 
 pub returns : goal.returns
 unfolding refusal_of decimal
-returns c = let a = c.args in
+returns c =
+    let a = c.args in
     let t = a.out.now in
     let w2 = wrote_more t _ (decimal a.number) c.write-a.ensures c.digits-b.ensures in
     let w3 = wrote_more t _ (name_of a.paper) w2 c.name-c.ensures in

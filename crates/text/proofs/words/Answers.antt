@@ -1,4 +1,4 @@
--- `text::words` meets its contract. The invariant: the table has the first i words, and from there on what it had.
+-- `text::words` meets its contract.
 use borrow.Author.Rules.{rules}
 use native.Mathlib.Omega.{arith}
 use Prim.Native.Nat.{ℕ}

@@ -1,4 +1,4 @@
--- `text::write` meets its contract. The invariant: the table has the piece's first i bytes at their place, and elsewhere what it had.
+-- `text::write` meets its contract.
 use borrow.Author.Rules.{rules}
 use native.Mathlib.Omega.{arith}
 use Prim.Native.Nat.{ℕ}

@@ -1,4 +1,4 @@
--- `text::write` meets its contract. The invariant: the table has the piece's first i bytes at their place, and elsewhere what it had.
+-- The invariant: the table has the piece's first i bytes at their place, and elsewhere what it had.
 use Prim.Native.Nat.{◌≤◌, ◌-◌}
 use mathlib.Core.Path.{◌≡◌}
 use lib.ListN.{take}

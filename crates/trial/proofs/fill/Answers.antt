@@ -1,4 +1,4 @@
--- `trial::fill` meets its contract. The invariant: the table has x in its first i words, and from there on what it had.
+-- `trial::fill` meets its contract.
 use native.Mathlib.Omega.{arith}
 use borrow.Author.Rules.{rules}
 use mathlib.Core.Path.{refl, ap, ◌∙◌}

@@ -1,4 +1,4 @@
--- `trial::fill` meets its contract. The invariant: the table has x in its first i words, and from there on what it had.
+-- The invariant: the table has x in its first i words, and from there on what it had.
 use Prim.Native.Nat.{◌≤◌, ◌-◌}
 use mathlib.Core.Path.{◌≡◌}
 use Rattle.promise.specs.Place.{filled}

@@ -10,5 +10,6 @@ pub slice_bounds-rounds_line-end : goal.slice_bounds-rounds_line-end
 slice_bounds-rounds_line-end c = sym (length-take-le c.args.d c.args.words.now (omega (arith, c.requires)))
 
 pub returns : goal.returns
-returns c = let a = c.args in
+returns c =
+    let a = c.args in
     rw (← first_part a.words.now a.d, ← cut_part a.words.now a.d a.c, sym c.fill.ensures) (c.rounds_line.ensures.0, c.rounds_line.ensures.1)

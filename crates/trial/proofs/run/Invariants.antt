@@ -1,4 +1,4 @@
--- `trial::run` is safe and ends. The invariant: every table is as long as at the start. The measure is the number of turns that are left.
+-- The invariant: every table is as long as at the start. The measure is the number of turns that are left.
 use lib.ListN.{length}
 use mathlib.Core.Path.{◌≡◌}
 use Rattle.trial.proofs.run.Given as goal

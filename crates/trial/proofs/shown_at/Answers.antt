@@ -11,7 +11,8 @@ pub slice_bounds-shown_line-end : goal.slice_bounds-shown_line-end
 slice_bounds-shown_line-end c = sym (length-take-le c.args.d c.args.words.now (omega (arith, c.requires)))
 
 pub shown_line-requires : goal.shown_line-requires
-shown_line-requires c = let a = c.args in
+shown_line-requires c =
+    let a = c.args in
     let e = length-take-le a.d a.words.now (omega (arith, c.requires)) in
     let f = ap length (cut_part a.words.now a.d a.c) ∙ part_length a.words.now a.d a.c (omega (arith, c.requires)) in
     omega (arith, e, f, c.requires)

@@ -1,5 +1,4 @@
--- `verdict::first_differing` meets its contract. The invariant: the whole search is the search from i on, what holds at the probe before i is held, and the lent
--- table is as it was.
+-- The invariant: the whole search is the search from i on, what holds at the probe before i is held, and the lent table is as it was.
 use Prim.Native.Nat.{◌-◌}
 use mathlib.Core.Path.{◌≡◌}
 use Rattle.meaning.specs.Verdict.{probe_agrees}

@@ -1,4 +1,4 @@
--- `verdict::first_failing` meets its contract. The invariant: the whole search is the search from j on.
+-- The invariant: the whole search is the search from j on.
 use Prim.Native.Nat.{◌-◌}
 use Rattle.meaning.specs.Rules.{line_follows}
 use Rattle.promise.specs.Layout.{dossier_at}

@@ -13,9 +13,11 @@ unfolding ok_of
 refusing-requires c = (c.requires, line_ends _ _)
 
 pub returns-then-v-eq0 : goal.returns-then-v-eq0
-returns-then-v-eq0 c = let a = c.args in
+returns-then-v-eq0 c =
+    let a = c.args in
     last_empty_lem a.s.now a.p c.line_at-v.ensures c.if-v-eq0.true c.accepting.ensures
 
 pub returns-else-v-eq0 : goal.returns-else-v-eq0
-returns-else-v-eq0 c = let a = c.args in
+returns-else-v-eq0 c =
+    let a = c.args in
     last_left a.s.now a.p c.line_at-v.ensures c.if-v-eq0.false c.refusing.ensures

@@ -11,9 +11,11 @@ unfolding ok_of
 refusing-requires c = (c.requires.0.laid.secret.ends, entry_ends _ _)
 
 pub returns-then-answer_at-goal : goal.returns-then-answer_at-goal
-returns-then-answer_at-goal c = let a = c.args in
+returns-then-answer_at-goal c =
+    let a = c.args in
     secret_changed a.d.now a.o a.w.now a.k c.answer_at.ensures c.requires.1 (signs_differ _ _ c.if-answer_at-goal.true) c.accepting.ensures refl
 
 pub returns-else-answer_at-goal : goal.returns-else-answer_at-goal
-returns-else-answer_at-goal c = let a = c.args in
+returns-else-answer_at-goal c =
+    let a = c.args in
     secret_kept_lem a.d.now a.o a.w.now a.k c.answer_at.ensures c.requires.1 (signs_agree _ _ c.if-answer_at-goal.false) c.refusing.ensures c.rounds_at.ensures

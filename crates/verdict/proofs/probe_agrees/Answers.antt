@@ -8,5 +8,6 @@ use Rattle.verdict.proofs.probe_agrees.Goals as goal
 
 pub returns : goal.returns
 unfolding ◌is◌
-returns c = let a = c.args in
+returns c =
+    let a = c.args in
     ap (λ (x : ℕ). x is get_or a.told.now a.i 0) (c.word_of.ensures ∙ ap bit c.answer_in-a.ensures)

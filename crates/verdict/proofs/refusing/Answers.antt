@@ -8,5 +8,6 @@ use Rattle.verdict.proofs.refusing.Goals as goal
 
 pub returns : goal.returns
 unfolding showing
-returns c = let a = c.args in
+returns c =
+    let a = c.args in
     ap {B = Reply} (λ (q : ℕ). record { verdict = said.Refused a.number; paper = a.paper; place = a.p; count = q - a.p }) c.next_at-q.ensures

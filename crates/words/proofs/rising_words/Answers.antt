@@ -1,4 +1,4 @@
--- `words::rising_words` meets its contract. The invariant: what is left to read from p on answers as the whole does.
+-- `words::rising_words` meets its contract.
 use native.Mathlib.Omega.{arith}
 use mathlib.Core.Path.{refl, sym, ◌∙◌}
 use Rattle.words.proofs.Steps.{next_here, rising_none, rising_stop, rising_on}

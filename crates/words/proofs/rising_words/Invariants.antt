@@ -1,4 +1,4 @@
--- `words::rising_words` meets its contract. The invariant: what is left to read from p on answers as the whole does.
+-- The invariant: what is left to read from p on answers as the whole does.
 use mathlib.Core.Path.{◌≡◌}
 use Rattle.words.specs.Read.{rising}
 use Rattle.words.specs.Answer.{as_step}
