@@ -10,11 +10,11 @@ use lib.ListN.{length, get_or, drop, length-append}
 use borrow.Author.Tests.{ltb-true, lt-ltb, le-ltb}
 use Rattle.words.specs.Out.{got, bad, present, word}
 use Rattle.words.specs.Read.{ranged, times}
-use Rattle.words.specs.Answer.{as_step}
+use Rattle.words.specs.Answer.{answer, as_step, as_got}
 use Rattle.words.specs.Code.{code_all, code_many}
-use Rattle.words.specs.declared.Step.{Step}
-use Rattle.words.specs.declared.Step.TheVariants.{Next, Refused}
-use Rattle.words.proofs.Steps.{refused, passed, step_made}
+use Rattle.std.specs.Prelude.{Result, Ok, Err}
+use Rattle.reply.specs.declared.Refusal.{Refusal}
+use Rattle.words.proofs.Steps.{failed, stepped, step_made}
 use Rattle.words.proofs.Promise.{OK, ok_then, ok_made, ok_word, ok_more, In, in_got, in_bad, in_then, in_made, Spans, spans_join, lies, past, Reads, reads_as, reads_ranged, reads_times}
 use Rattle.meaning.specs.Tests.{◌is◌, choose}
 use Rattle.meaning.specs.Papers.{Rule, probe, secret, clause, assumed, credential, cut, without, resolve, number, Line}
@@ -28,43 +28,39 @@ use Rattle.certificate.proofs.Literals.{reads_literals}
 
 -- ---- data words: so many are there, or the paper ends before
 
-pub data_there : (k : ℕ) (ws : List ℕ) (at : ℕ) → at + k ≤ length ws → as_step (times k word ws at) ≡ Next (at + k)
-unfolding times as_step
-data_there zero ws at h = ap Next (omega arith)
+pub data_there : (k : ℕ) (ws : List ℕ) (at : ℕ) → at + k ≤ length ws → as_step (times k word ws at) ≡ Ok (at + k)
+unfolding times answer
+data_there zero ws at h = ap Ok (omega arith)
 data_there (suc k) ws at h =
     let i : at < length ws = omega arith in
     let n : at + 1 + k ≡ at + suc k = omega arith in
-    simp (lt-ltb _ _ i, step_made, data_there k ws (at + 1) (omega arith)) (ap Next n)
+    simp (lt-ltb _ _ i, step_made, data_there k ws (at + 1) (omega arith)) (ap Ok n)
 
-pub data_past : (k : ℕ) (ws : List ℕ) (at : ℕ) → at ≤ length ws → length ws < at + k → as_step (times k word ws at) ≡ Refused 1 (length ws) 0
-unfolding times as_step
+pub data_past : (k : ℕ) (ws : List ℕ) (at : ℕ) → at ≤ length ws → length ws < at + k → times k word ws at ≡ bad 1 (length ws) 0
+unfolding times answer
 data_past zero ws at h g = absurd (omega arith)
 data_past (suc k) ws at h g = go (dec_lt at (length ws)) (data_past k ws (at + 1))
   where
-    go : Dec (at < length ws) → (at + 1 ≤ length ws → length ws < at + 1 + k → as_step (times k word ws (at + 1)) ≡ Refused 1 (length ws) 0) → as_step (times (suc k) word ws at) ≡ Refused 1 (length ws) 0
-    go (yes i) ih = simp (lt-ltb _ _ i, step_made, ih (omega arith) (omega arith))
+    go : Dec (at < length ws) → (at + 1 ≤ length ws → length ws < at + 1 + k → times k word ws (at + 1) ≡ bad 1 (length ws) 0) → times (suc k) word ws at ≡ bad 1 (length ws) 0
+    go (yes i) ih = simp (lt-ltb _ _ i, ih (omega arith) (omega arith))
     go (no n) ih = let i : length ws ≤ at = omega arith in simp (le-ltb _ _ i)
 
 -- ---- a line: each part is refused, or was read and the next answers for the rest
 
 module _ (n m : ℕ) (ws : List ℕ) (at : ℕ) where
-  pub rule_bad : {e p w : ℕ} → ranged 1 9 12 ws at ≡ bad e p w → as_step (line n m ws at) ≡ Refused e p w
-  unfolding line as_step
-  rule_bad h = rw h
+  module _ {rule k : ℕ} {s : Result ℕ Refusal} (a : ranged 1 9 12 ws at ≡ got rule (at + 1)) (c : k ≡ data_count rule) (d : s ≡ as_step (times k word ws (at + 1))) where
+    pub data_bad : {x : Refusal} → s ≡ Err x → Err x ≡ as_step (line n m ws at)
+    unfolding line answer
+    data_bad g = let b = failed _ (times k word ws (at + 1)) d g in rw (a, ← c, b.is) (ap Err b.told)
 
-  module _ {r k : ℕ} {s : Step} (a : ranged 1 9 12 ws at ≡ got r (at + 1)) (c : k ≡ data_count r) (d : s ≡ as_step (times k word ws (at + 1))) where
-    pub data_bad : {e p w : ℕ} → s ≡ Refused e p w → as_step (line n m ws at) ≡ Refused e p w
-    unfolding line as_step
-    data_bad g = let b = refused (times k word ws (at + 1)) d g in rw (a, ← c, b)
+    module _ {q : ℕ} (g : s ≡ Ok q) where
+      pub count_bad : {t : Result ℕ Refusal} {x : Refusal} → t ≡ as_got (ranged 0 9 2 ws q) → t ≡ Err x → Err x ≡ as_step (line n m ws at)
+      unfolding line answer
+      count_bad e h = let b = (stepped (times k word ws (at + 1)) d g).1 in let f = failed _ (ranged 0 9 2 ws q) e h in rw (a, ← c, b, f.is) (ap Err f.told)
 
-    module _ {q : ℕ} (g : s ≡ Next q) where
-      pub count_bad : {e p w : ℕ} → ranged 0 9 2 ws q ≡ bad e p w → as_step (line n m ws at) ≡ Refused e p w
-      unfolding line as_step
-      count_bad h = let b = (passed (times k word ws (at + 1)) d g).1 in rw (a, ← c, b, h)
-
-      pub line_on : {j p : ℕ} → ranged 0 9 2 ws q ≡ got j p → as_step (line n m ws at) ≡ as_step (literals n m j [] ws p)
+      pub line_on : {j p : ℕ} → ranged 0 9 2 ws q ≡ got j p → as_step (literals n m j [] ws p) ≡ as_step (line n m ws at)
       unfolding line
-      line_on h = let b = (passed (times k word ws (at + 1)) d g).1 in rw (a, ← c, b, h) (step_made _ _)
+      line_on h = let b = (stepped (times k word ws (at + 1)) d g).1 in rw (a, ← c, b, h) (sym (step_made _ _))
 
 -- ---- what the reader of data words promises: their presence alone is tested
 

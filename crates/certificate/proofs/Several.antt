@@ -9,10 +9,11 @@ use borrow.Author.Count.{below_more}
 use lib.ListN.{drop}
 use Rattle.words.specs.Out.{Out, got, bad, then, made, need}
 use Rattle.meaning.specs.Papers.{Literal}
-use Rattle.words.specs.Answer.{as_step}
-use Rattle.words.specs.declared.Step.{Step}
-use Rattle.words.specs.declared.Step.TheVariants.{Next, Refused}
-use Rattle.words.proofs.Steps.{passed, step_made, step_got}
+use Rattle.words.specs.Answer.{answer, as_step, at_word}
+use Rattle.std.specs.Prelude.{Result, Ok, Err}
+use Rattle.reply.specs.declared.Fault.TheVariants as fault
+use Rattle.reply.specs.declared.Refusal.{Refusal}
+use Rattle.words.proofs.Steps.{failed, stepped, step_made, answer_got, answer_fault}
 use Rattle.words.proofs.Promise.{reads_got}
 use Rattle.promise.specs.Place.{Kind, place, many, Fit}
 use Rattle.promise.specs.Line as seen
@@ -35,51 +36,51 @@ pub record Lit (n m : ℕ) (ws : List ℕ) (p q : ℕ) : Type 0 where
   pub next : q ≡ (seen.literal).next ws p
   pub ok : (seen.literal).ok ws p
 
-pub lit : (n m : ℕ) (ws : List ℕ) (p : ℕ) {r : Step} {q : ℕ} → r ≡ as_step (literal n m ws p) → r ≡ Next q → Lit n m ws p q
+pub lit : (n m : ℕ) (ws : List ℕ) (p : ℕ) {r : Result ℕ Refusal} {q : ℕ} → r ≡ as_step (literal n m ws p) → r ≡ Ok q → Lit n m ws p q
 lit n m ws p {q = q} f g =
-    let (l, e) = passed (literal n m ws p) f g in
+    let (l, e) = stepped (literal n m ws p) f g in
     let s = (reads_got (reads_literal n m) e).0 in
     let v = literals_seen ws p l (drop q ws) s.words tt in
     record { is = rw v.that e; next = s.next ∙ sym v.next; ok = v.ok }
 
 -- one literal after those before: it is refused, and so are more of them; or it was read, and speaks of nothing new
 module _ (n m : ℕ) (before : List Literal) (ws : List ℕ) (p : ℕ) where
-  pub one_stop : {e q w : ℕ} → literal n m ws p ≡ bad e q w → as_step (literals n m 1 before ws p) ≡ Refused e q w
-  unfolding literals as_step
-  one_stop h = rw h
+  pub one_stop : {r : Result ℕ Refusal} {x : Refusal} → r ≡ as_step (literal n m ws p) → r ≡ Err x → Err x ≡ as_step (literals n m 1 before ws p)
+  unfolding literals answer
+  one_stop e g = let b = failed _ (literal n m ws p) e g in rw b.is (ap Err b.told)
 
   module _ {l : Literal} {q : ℕ} (h : literal n m ws p ≡ got l q) {r : Bool} (e : r ≡ spoken l.said before) where
-    pub one_twice : r ≡ true → as_step (literals n m 1 before ws p) ≡ Refused 13 p 1
-    unfolding literals as_step
-    one_twice y = let z = sym e ∙ y in rw (h, z)
+    pub one_twice : r ≡ true → Err (at_word fault.SaidTwice p) ≡ as_step (literals n m 1 before ws p)
+    unfolding literals
+    one_twice y = let z = sym e ∙ y in sym (answer_fault _ (rw (h, z)))
 
-    pub one_on : r ≡ false → as_step (literals n m 1 before ws p) ≡ Next q
-    unfolding literals as_step
+    pub one_on : r ≡ false → Ok q ≡ as_step (literals n m 1 before ws p)
+    unfolding literals answer
     one_on y = let z = sym e ∙ y in rw (h, z)
 
-  one_bad : (j : ℕ) {e q w : ℕ} → as_step (literals n m 1 before ws p) ≡ Refused e q w → as_step (literals n m (suc j) before ws p) ≡ Refused e q w
-  unfolding literals as_step
-  one_bad j {e} {q} {w} h = go (literal n m ws p) h
+  one_bad : (j : ℕ) {x : Refusal} → as_step (literals n m 1 before ws p) ≡ Err x → as_step (literals n m (suc j) before ws p) ≡ Err x
+  unfolding literals answer
+  one_bad j {x} h = go (literal n m ws p) h
     where
-      tested : (l : Literal) (x : ℕ) (b : Bool) → as_step (need b 13 p (got (l ∷ []) x)) ≡ Refused e q w → as_step (need b 13 p (made (λ ls. l ∷ ls) (literals n m j (before ++ (l ∷ [])) ws x))) ≡ Refused e q w
-      tested l x true k = absurd (let z : ◌≡◌ {A = ℕ} 0 1 = cc in omega arith)
-      tested l x false k = k
+      tested : (l : Literal) (q : ℕ) (b : Bool) → as_step (need b 13 p (got (l ∷ []) q)) ≡ Err x → as_step (need b 13 p (made (λ ls. l ∷ ls) (literals n m j (before ++ (l ∷ [])) ws q))) ≡ Err x
+      tested l q true k = absurd (let z : ◌≡◌ {A = ℕ} 0 1 = cc in omega arith)
+      tested l q false k = k
 
-      go : (o : Out Literal) → as_step (then o (λ l x. need (not (spoken l.said before)) 13 p (got (l ∷ []) x))) ≡ Refused e q w
-          → as_step (then o (λ l x. need (not (spoken l.said before)) 13 p (made (λ ls. l ∷ ls) (literals n m j (before ++ (l ∷ [])) ws x)))) ≡ Refused e q w
-      go (got l x) k = tested l x (not (spoken l.said before)) k
-      go (bad a x b) k = k
+      go : (o : Out Literal) → as_step (then o (λ l q. need (not (spoken l.said before)) 13 p (got (l ∷ []) q))) ≡ Err x
+          → as_step (then o (λ l q. need (not (spoken l.said before)) 13 p (made (λ ls. l ∷ ls) (literals n m j (before ++ (l ∷ [])) ws q)))) ≡ Err x
+      go (got l q) k = tested l q (not (spoken l.said before)) k
+      go (bad a q b) k = k
 
-  one_passed : {q : ℕ} → as_step (literals n m 1 before ws p) ≡ Next q → (l : Literal) × ((literal n m ws p ≡ got l q) × (spoken l.said before ≡ false))
-  unfolding literals as_step
+  one_passed : {q : ℕ} → as_step (literals n m 1 before ws p) ≡ Ok q → (l : Literal) × ((literal n m ws p ≡ got l q) × (spoken l.said before ≡ false))
+  unfolding literals answer
   one_passed {q} h = go (literal n m ws p) refl h
     where
-      tested : (l : Literal) (x : ℕ) → literal n m ws p ≡ got l x → (b : Bool) → spoken l.said before ≡ b → as_step (need (not b) 13 p (got (l ∷ []) x)) ≡ Next q
+      tested : (l : Literal) (x : ℕ) → literal n m ws p ≡ got l x → (b : Bool) → spoken l.said before ≡ b → as_step (need (not b) 13 p (got (l ∷ []) x)) ≡ Ok q
           → (l : Literal) × ((literal n m ws p ≡ got l q) × (spoken l.said before ≡ false))
       tested l x g true z k = absurd (let y : ◌≡◌ {A = ℕ} 0 1 = cc in omega arith)
       tested l x g false z k = let y : x ≡ q = cc in (l, (g ∙ ap (got l) y, z))
 
-      go : (o : Out Literal) → literal n m ws p ≡ o → as_step (then o (λ l x. need (not (spoken l.said before)) 13 p (got (l ∷ []) x))) ≡ Next q
+      go : (o : Out Literal) → literal n m ws p ≡ o → as_step (then o (λ l x. need (not (spoken l.said before)) 13 p (got (l ∷ []) x))) ≡ Ok q
           → (l : Literal) × ((literal n m ws p ≡ got l q) × (spoken l.said before ≡ false))
       go (got l x) g k = tested l x g (spoken l.said before) refl k
       go (bad a x b) g k = absurd (let y : ◌≡◌ {A = ℕ} 0 1 = cc in omega arith)
@@ -99,23 +100,23 @@ module _ {n m at k : ℕ} {ws : List ℕ} where
   state_first = record { fit = λ j h. absurd (omega arith); here = refl; same = let z : k ≡ k - 0 = omega arith in ap (λ (j : ℕ). as_step (literals n m j [] ws at)) z }
 
   module _ {done p : ℕ} (s : State n m ws at k done p) where
-    pub state_none : k ≤ done → as_step (literals n m k [] ws at) ≡ Next p
-    unfolding literals as_step
+    pub state_none : k ≤ done → as_step (literals n m k [] ws at) ≡ Ok p
+    unfolding literals answer
     state_none h = let z : k - done ≡ 0 = omega arith in s.same ∙ rw z
 
     module _ (more : done < k) where
       at_least : k - done ≡ suc (k - (done + 1))
       at_least = omega arith
 
-      module _ {r : Step} (e : r ≡ as_step (literals n m 1 (many seen.literal ws at done) ws p)) where
-        pub state_bad : {number q w : ℕ} → r ≡ Refused number q w → as_step (literals n m k [] ws at) ≡ Refused number q w
+      module _ {r : Result ℕ Refusal} (e : r ≡ as_step (literals n m 1 (many seen.literal ws at done) ws p)) where
+        pub state_bad : {x : Refusal} → r ≡ Err x → as_step (literals n m k [] ws at) ≡ Err x
         state_bad h = s.same ∙ ap (λ (j : ℕ). as_step (literals n m j (many seen.literal ws at done) ws p)) at_least ∙ one_bad n m _ ws p _ (sym e ∙ h)
 
-        pub state_on : {q : ℕ} → r ≡ Next q → State n m ws at k (done + 1) q
+        pub state_on : {q : ℕ} → r ≡ Ok q → State n m ws at k (done + 1) q
         unfolding literals Fit
         state_on {q} h =
             let (l, (g, z)) = one_passed n m (many seen.literal ws at done) ws p (sym e ∙ h) in
-            let t = lit n m ws p {r = Next q} (sym (step_got g)) refl in
+            let t = lit n m ws p {r = Ok q} (sym (answer_got _ g)) refl in
             let y : spoken ((seen.literal).read ws p).said (many seen.literal ws at done) ≡ false = ap (λ (x : Literal). spoken x.said (many seen.literal ws at done)) (same_value t.is g) ∙ z in
             let b : many seen.literal ws at (done + 1) ≡ many seen.literal ws at done ++ ((seen.literal).read ws p ∷ []) = rw (add-one done, s.here) (many_more seen.literal ws at done) in
             record {

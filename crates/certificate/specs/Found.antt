@@ -1,10 +1,11 @@
 -- The code's answer: what a sound certificate proposes, or the refusal.
-use Rattle.words.specs.Out.{Out, got, bad}
+use Rattle.std.specs.Prelude.{Result}
+use Rattle.reply.specs.declared.Refusal.{Refusal}
+use Rattle.words.specs.Out.{Out}
+use Rattle.words.specs.Answer.{answer}
 use Rattle.meaning.specs.Papers.{Certificate}
 use Rattle.promise.specs.Layout.{proposal_of}
-use Rattle.certificate.specs.declared.Form.{Form}
-use Rattle.certificate.specs.declared.Form.TheVariants.{Sound, Refused}
+use Rattle.promise.specs.declared.Proposal.{Proposal}
 
-unfoldable pub as_form : Out Certificate → Form
-as_form (got C p) = Sound (proposal_of C)
-as_form (bad e p w) = Refused e p w
+abbrev pub as_form : Out Certificate → Result Proposal Refusal
+as_form o = answer (λ C p. proposal_of C) o

@@ -1,8 +1,7 @@
 -- The certificate, read from left to right (01, "The two papers"). n is the number of atoms, m that of the credentials.
 use Rattle.std.specs.Prelude.{ℕ, zero, suc, Bool, not, List, [], ◌∷◌, ◌++◌, length, leb}
 use Rattle.words.specs.Out.{Out, got, bad, then, made, need, word, after}
-use Rattle.words.specs.Read.{ranged, listed, times, section}
-use Rattle.words.specs.declared.Range.TheVariants.{Below}
+use Rattle.words.specs.Read.{Below, ranged, listed, times, section}
 use Rattle.meaning.specs.Tests.{◌is◌, any, choose}
 use Rattle.meaning.specs.Papers.{Statement, Literal, Line, Certificate, witness, proof}
 use Rattle.meaning.specs.Rules.{same_statement}

@@ -1,35 +1,31 @@
 -- The sections one after the other.
 use Prim.Native.Nat.{ℕ, suc, ◌+◌, ◌-◌, ◌<◌, ◌≤◌}
-use mathlib.Core.Path.{◌≡◌, refl, sym, ap, ◌∙◌}
+use mathlib.Core.Path.{◌≡◌, refl, sym, ap, ap₂, ◌∙◌}
 use mathlib.Core.Bool.{Bool, true, false}
 use mathlib.Core.List.{List, [], ◌∷◌}
 use native.Mathlib.Omega.{arith}
-use lib.ListN.{length}
+use lib.ListN.{length, drop}
 use lib.Dec.{leb}
-use borrow.Author.Tests.{le-leb, lt-leb}
+use Rattle.std.specs.Prelude.{Result, Ok, Err}
+use Rattle.reply.specs.declared.Refusal.{Refusal}
 use Rattle.words.specs.Out.{Out, got, bad, then, made, need, moved, after}
-use Rattle.words.specs.Read.{ranged, listed, section, times}
-use Rattle.words.specs.Answer.{as_step}
-use Rattle.words.specs.declared.Step.{Step}
-use Rattle.words.specs.declared.Step.TheVariants.{Next}
-use Rattle.words.specs.declared.Step.TheVariants as step
-use Rattle.words.specs.declared.Range.TheVariants.{Any}
-use Rattle.words.proofs.Steps.{refused, passed}
+use Rattle.words.specs.Read.{Any, ranged, listed, section, times}
+use Rattle.words.specs.Answer.{answer, as_step}
+use Rattle.words.specs.Items.{part_step, last_step, as_section}
+use Rattle.words.specs.declared.item.Section.{Section}
 use Rattle.words.specs.Code.{code_many}
-use Rattle.words.proofs.Promise.{OK, fine, none, ok_then, ok_need, ok_got, In, got_in, Spans, Reads, reads_got, reads_ranged, reads_listed, reads_section}
+use Rattle.words.proofs.Steps.{failed, passed, stepped}
+use Rattle.words.proofs.Sections.{told_part, told_last}
+use Rattle.words.proofs.Promise.{OK, fine, none, got_in, Spans, Reads, reads_got, reads_ranged, reads_listed, reads_section}
 use Rattle.words.proofs.Parts.{in_after, reads_after}
 use Rattle.meaning.specs.Policy.{Clause}
 use Rattle.meaning.specs.Papers.{Entry, Marked, Dossier}
 use Rattle.promise.specs.Code.{code_marked, code_clause, code_entry}
 use Rattle.promise.specs.Layout.{layout_of}
+use Rattle.promise.specs.declared.Layout.{Layout}
 use Rattle.dossier.specs.Read.{clause, marked, entry, secret, ended, sections, dossier}
-use Rattle.dossier.specs.Found.{as_section, item_after, Asked, asked, as_asked, as_form}
-use Rattle.dossier.specs.declared.Item.TheVariants as item
-use Rattle.dossier.specs.declared.Form.TheVariants as form
-use Rattle.dossier.specs.declared.Section.{Section}
-use Rattle.dossier.specs.declared.Section.TheVariants.{Counted, Refused}
+use Rattle.dossier.specs.Found.{Asked, asked, as_asked, as_form}
 use Rattle.dossier.proofs.Items.{reads_clause, reads_marked, reads_entry}
-use Rattle.dossier.proofs.Sections.{anything, counted, uncounted}
 
 -- a section of exactly one thing is that thing after the count
 one_thing : (n m : ℕ) (ws : List ℕ) (at : ℕ) → section 1 2 (entry n m) ws at ≡ made (λ e. e ∷ []) (secret n m ws at)
@@ -46,64 +42,73 @@ one_thing n m ws at = go (ranged 1 2 2 ws at) ((reads_ranged 1 2 2).sound ws at)
 
 one_after : (n m : ℕ) (ws : List ℕ) (p : ℕ) → after (section 1 2 (entry n m)) ws p ≡ made (λ e. e ∷ []) (after (secret n m) ws p)
 unfolding after moved
-one_after n m ws p = ap (moved p) (one_thing n m (lib.ListN.drop p ws) 0) ∙ both (secret n m (lib.ListN.drop p ws) 0)
+one_after n m ws p = ap (moved p) (one_thing n m (drop p ws) 0) ∙ both (secret n m (drop p ws) 0)
   where
     both : (o : Out Entry) → moved p (made (λ e. e ∷ []) o) ≡ made (λ e. e ∷ []) (moved p o)
     both (got v q) = refl
     both (bad e q w) = refl
 
--- what the secret's reader found, from the answer for a section of one
-secret_bad : (n m : ℕ) (ws : List ℕ) (p : ℕ) {r : Section} {e q w : ℕ} → r ≡ item_after item.Entry n m 1 2 ws p → r ≡ Refused e q w → after (secret n m) ws p ≡ bad e q w
-unfolding item_after
-secret_bad n m ws p h g = go (after (secret n m) ws p) (sym (one_after n m ws p) ∙ uncounted _ h g)
+-- what the code answers of it, where no word may be left
+secret_told : (n m : ℕ) (ws : List ℕ) (p : ℕ) → last_step (λ us q. as_step (entry n m us q)) 1 2 ws p ≡ answer (λ e q. 1) (then (after (secret n m) ws p) (λ e q. ended ws e q))
+unfolding ended answer
+secret_told n m ws p = told_last (entry n m) 1 2 ws p ∙ rw (one_after n m ws p) (go (after (secret n m) ws p))
   where
-    go : (o : Out Entry) {e q w : ℕ} → made (λ v. v ∷ []) o ≡ bad e q w → o ≡ bad e q w
-    go (got v q) k = absurd (let z : ◌≡◌ {A = ℕ} 0 1 = cc in omega arith)
-    go (bad e q w) k = cc
+    left : (e : Entry) (q : ℕ) (b : Bool) → answer (λ es r. length es) (need b 9 q (got (e ∷ []) q)) ≡ answer (λ e r. 1) (need b 9 q (got e q))
+    left e q true = refl
+    left e q false = refl
 
-secret_got : (n m : ℕ) (ws : List ℕ) (p : ℕ) {r : Section} {k q : ℕ} → r ≡ item_after item.Entry n m 1 2 ws p → r ≡ Counted k q → (s : Entry) × (after (secret n m) ws p ≡ got s q)
-unfolding item_after
-secret_got n m ws p h g = let c = counted _ h g in go (after (secret n m) ws p) (sym (one_after n m ws p) ∙ c.1)
-  where
-    go : (o : Out Entry) {xs : List Entry} {q : ℕ} → made (λ v. v ∷ []) o ≡ got xs q → (s : Entry) × (o ≡ got s q)
-    go (got v q) k = (v, cc)
-    go (bad e q w) k = absurd (let z : ◌≡◌ {A = ℕ} 0 1 = cc in omega arith)
+    go : (o : Out Entry) → answer (λ es q. length es) (then (made (λ e. e ∷ []) o) (λ es q. need (leb (length ws) q) 9 q (got es q))) ≡ answer (λ e q. 1) (then o (λ e q. need (leb (length ws) q) 9 q (got e q)))
+    go (got e q) = left e q (leb (length ws) q)
+    go (bad e q w) = refl
 
 -- a section that was read: its things, how many, and where it ends
-pub record Sectioned {A : Type 0} (r : List ℕ → ℕ → Out A) (code : A → List ℕ) (lo hi : ℕ) (ws : List ℕ) (p k q : ℕ) : Type 0 where
+pub record Sectioned {A : Type 0} (r : List ℕ → ℕ → Out A) (code : A → List ℕ) (lo hi : ℕ) (ws : List ℕ) (p : ℕ) (s : Section) : Type 0 where
   pub xs : List A
-  pub is : after (section lo hi r) ws p ≡ got xs q
-  pub count : k ≡ length xs
-  pub place : q ≡ p + length (code_many code xs)
-  pub within : q ≤ length ws
+  pub is : after (section lo hi r) ws p ≡ got xs s.next
+  pub count : s.count ≡ length xs
+  pub place : s.next ≡ p + length (code_many code xs)
+  pub within : s.next ≤ length ws
 
 sectioned : {A : Type 0} {r : List ℕ → ℕ → Out A} {code : A → List ℕ} {Form : A → Type 0} → Reads r code Form → (lo hi : ℕ) (ws : List ℕ) (p : ℕ) → p ≤ length ws
-    → {a : Section} {k q : ℕ} → a ≡ as_section (after (section lo hi r) ws p) → a ≡ Counted k q → Sectioned r code lo hi ws p k q
-sectioned {r = r} R lo hi ws p h f g =
-    let (xs, e, c) = counted _ f g in
-    record { xs = xs; is = e; count = c; place = (reads_got (reads_after (reads_section R lo hi)) e).0.next; within = got_in (in_after (reads_section R lo hi).inside ws p h) e }
+    → {a : Result Section Refusal} {s : Section} → a ≡ as_section (after (section lo hi r) ws p) → a ≡ Ok s → Sectioned r code lo hi ws p s
+sectioned {r = r} R lo hi ws p h {s = s} f g =
+    let b = passed _ (after (section lo hi r) ws p) f g in
+    let n : s.next ≡ b.p = ap (λ (t : Section). t.next) b.told in
+    let e : after (section lo hi r) ws p ≡ got b.v s.next = b.is ∙ ap (got b.v) (sym n) in
+    record { xs = b.v; is = e; count = ap (λ (t : Section). t.count) b.told; place = (reads_got (reads_after (reads_section R lo hi)) e).0.next; within = got_in (in_after (reads_section R lo hi).inside ws p h) e }
 
 module _ (n m : ℕ) (small : n ≤ 256) (ws : List ℕ) (p : ℕ) (h : p ≤ length ws) where
-  pub probes_bad : {r : Section} {e q w : ℕ} → r ≡ item_after item.Entry n m 0 65 ws p → r ≡ Refused e q w → Refused e q w ≡ as_asked p (asked n m ws p)
-  unfolding item_after asked as_asked
-  probes_bad f g = rw (uncounted _ f g)
+  pub probes_read : {r : Result Section Refusal} {s : Section} → r ≡ part_step (λ us q. as_step (entry n m us q)) 0 65 ws p → r ≡ Ok s → Sectioned (entry n m) code_entry 0 65 ws p s
+  probes_read f g = sectioned (reads_entry n m small) 0 65 ws p h (f ∙ told_part (entry n m) 0 65 ws p) g
 
-  pub probes_read : {r : Section} {k q : ℕ} → r ≡ item_after item.Entry n m 0 65 ws p → r ≡ Counted k q → Sectioned (entry n m) code_entry 0 65 ws p k q
-  unfolding item_after
-  probes_read f g = sectioned (reads_entry n m small) 0 65 ws p h f g
+  pub probes_bad : {r : Result Section Refusal} {x : Refusal} → r ≡ part_step (λ us q. as_step (entry n m us q)) 0 65 ws p → r ≡ Err x → Err x ≡ as_asked p (asked n m ws p)
+  unfolding asked answer
+  probes_bad f g = let b = failed _ (after (section 0 65 (entry n m)) ws p) (f ∙ told_part (entry n m) 0 65 ws p) g in rw b.is (ap Err b.told)
 
-  module _ {k q : ℕ} (a : Sectioned (entry n m) code_entry 0 65 ws p k q) {r : Section} (f : r ≡ item_after item.Entry n m 1 2 ws q) where
-    pub asked_bad : {e x w : ℕ} → r ≡ Refused e x w → Refused e x w ≡ as_asked p (asked n m ws p)
-    unfolding asked as_asked
-    asked_bad g = rw (a.is, secret_bad n m ws q f g)
+  module _ {s : Section} (a : Sectioned (entry n m) code_entry 0 65 ws p s) {r : Result ℕ Refusal} (f : r ≡ last_step (λ us q. as_step (entry n m us q)) 1 2 ws s.next) where
+    -- after the probes, the secret and the end of the paper
+    abbrev last : Out Entry
+    last = then (after (secret n m) ws s.next) (λ e q. ended ws e q)
 
-    pub asked_left : {j x : ℕ} → r ≡ Counted j x → x < length ws → Refused 9 x 1 ≡ as_asked p (asked n m ws p)
-    unfolding asked as_asked ended
-    asked_left g i = rw (a.is, (secret_got n m ws q f g).1, lt-leb _ _ i)
+    then_asked : asked n m ws p ≡ made (λ e. record { probes = a.xs; secret = e }) last
+    unfolding asked ended
+    then_asked = rw a.is (go (after (secret n m) ws s.next))
+      where
+        left : (e : Entry) (q : ℕ) (b : Bool) → need {A = Asked} b 9 q (got (record { probes = a.xs; secret = e }) q) ≡ made (λ x. record { probes = a.xs; secret = x }) (need b 9 q (got e q))
+        left e q true = refl
+        left e q false = refl
 
-    pub asked_done : {j x : ℕ} → r ≡ Counted j x → length ws ≤ x → Counted k q ≡ as_asked p (asked n m ws p)
-    unfolding asked as_asked ended
-    asked_done g i = rw (a.is, (secret_got n m ws q f g).1, le-leb _ _ i, a.count, a.place)
+        go : (o : Out Entry) → then {B = Asked} o (λ e q. need (leb (length ws) q) 9 q (got (record { probes = a.xs; secret = e }) q)) ≡ made (λ e. record { probes = a.xs; secret = e }) (then o (λ e q. need (leb (length ws) q) 9 q (got e q)))
+        go (got e q) = left e q (leb (length ws) q)
+        go (bad e q w) = refl
+
+    pub asked_bad : {x : Refusal} → r ≡ Err x → Err x ≡ as_asked p (asked n m ws p)
+    unfolding answer
+    asked_bad g = let b = failed _ last (f ∙ secret_told n m ws s.next) g in rw (then_asked, b.is) (ap Err b.told)
+
+    pub asked_done : {j : ℕ} → r ≡ Ok j → Ok s ≡ as_asked p (asked n m ws p)
+    unfolding answer
+    asked_done g = let b = passed _ last (f ∙ secret_told n m ws s.next) g in rw (then_asked, b.is) (ap₂ (λ (k q : ℕ). Ok (record { count = k; next = q })) a.count a.place)
 
 -- ---- the whole dossier
 
@@ -133,39 +138,15 @@ pub record Labels (ws : List ℕ) (p : ℕ) : Type 0 where
   pub few : length ls ≤ 64
   pub within : p ≤ length ws
 
-pub labels_read : (ws : List ℕ) {r : Step} {p : ℕ} → r ≡ as_step (listed 1 65 Any ws 0) → r ≡ Next p → Labels ws p
+pub labels_read : (ws : List ℕ) {r : Result ℕ Refusal} {p : ℕ} → r ≡ as_step (listed 1 65 Any ws 0) → r ≡ Ok p → Labels ws p
 labels_read ws f g =
-    let (ls, e) = passed (listed 1 65 Any ws 0) f g in
+    let (ls, e) = stepped (listed 1 65 Any ws 0) f g in
     let s = reads_got (reads_listed 1 65 Any) e in
     record { ls = ls; is = e; place = omega (arith, s.0.next); few = omega (arith, s.1.1); within = got_in ((reads_listed 1 65 Any).inside ws 0 (omega arith)) e }
 
-pub labels_bad : (ws : List ℕ) {r : Step} {e p w : ℕ} → r ≡ as_step (listed 1 65 Any ws 0) → r ≡ step.Refused e p w → form.Refused e p w ≡ as_form (dossier ws)
-unfolding dossier sections as_form
-labels_bad ws f g = let b = refused (listed 1 65 Any ws 0) f g in rw b
-
--- what was read of the probes and the secret
-asked_read : (p : ℕ) (o : Out Asked) {r : Section} {k t : ℕ} → r ≡ as_asked p o → r ≡ Counted k t → (a : Asked) × (q : ℕ) × (o ≡ got a q) × (k ≡ length a.probes) × (t ≡ p + length (code_many code_entry a.probes))
-unfolding as_asked
-asked_read p (got a q) h g = (a, q, refl, cc, cc)
-asked_read p (bad e q w) h g = absurd (let z : ◌≡◌ {A = ℕ} 0 1 = cc in omega arith)
-
-asked_refused : (p : ℕ) (o : Out Asked) {r : Section} {e q w : ℕ} → r ≡ as_asked p o → r ≡ Refused e q w → o ≡ bad e q w
-unfolding as_asked
-asked_refused p (got a q) h g = absurd (let z : ◌≡◌ {A = ℕ} 0 1 = cc in omega arith)
-asked_refused p (bad e q w) h g = cc
-
--- the secret's section begins within the paper
-ok_within : {A : Type 0} {P : A → ℕ → Type 0} {l : ℕ} {o : Out A} → OK P o → In l o → OK (λ v q. P v q × (q ≤ l)) o
-ok_within (fine h) i = fine (h, got_in i refl)
-ok_within none i = none
-
-ok_asked : (n m : ℕ) → n ≤ 256 → (ws : List ℕ) (p : ℕ) → p ≤ length ws → OK (λ a q. p + length (code_many code_entry a.probes) ≤ length ws) (asked n m ws p)
-unfolding asked ended
-ok_asked n m small ws p h =
-    let R = reads_after (reads_section (reads_entry n m small) 0 65) in
-    ok_then _ (ok_within (R.sound ws p) (R.inside ws p h)) (λ es q s.
-    ok_then _ (anything (after (secret n m) ws q)) (λ e r u.
-    ok_need (leb (length ws) r) _ _ (λ b. fine (omega (arith, s.0.0.next, s.1)))))
+pub labels_bad : (ws : List ℕ) {r : Result ℕ Refusal} {x : Refusal} → r ≡ as_step (listed 1 65 Any ws 0) → r ≡ Err x → Err x ≡ as_form (dossier ws)
+unfolding dossier sections answer
+labels_bad ws f g = let b = failed _ (listed 1 65 Any ws 0) f g in rw b.is (ap Err b.told)
 
 -- the dossier made of what was read
 abbrev whole : List ℕ → List Marked → List Clause → List Entry → Entry → Dossier
@@ -179,47 +160,50 @@ module _ (ws : List ℕ) {p : ℕ} (l : Labels ws p) where
   pub atoms_are : p - 1 ≡ atoms
   atoms_are = omega (arith, l.place)
 
-  module _ {r : Section} (f : r ≡ item_after item.Clause (p - 1) 0 0 129 ws p) where
+  module _ {r : Result Section Refusal} (f : r ≡ part_step (λ us q. as_step (marked (p - 1) us q)) 0 129 ws p) where
     at_clauses : r ≡ as_section (after (section 0 129 (marked atoms)) ws p)
-    unfolding item_after
-    at_clauses = f ∙ ap (λ (n : ℕ). as_section (after (section 0 129 (marked n)) ws p)) atoms_are
+    at_clauses = f ∙ told_part (marked (p - 1)) 0 129 ws p ∙ ap (λ (n : ℕ). as_section (after (section 0 129 (marked n)) ws p)) atoms_are
 
-    pub clauses_bad : {e q w : ℕ} → r ≡ Refused e q w → form.Refused e q w ≡ as_form (dossier ws)
-    unfolding dossier sections as_form
-    clauses_bad g = rw (l.is, uncounted _ at_clauses g)
+    pub clauses_bad : {x : Refusal} → r ≡ Err x → Err x ≡ as_form (dossier ws)
+    unfolding dossier sections answer
+    clauses_bad g = let b = failed _ (after (section 0 129 (marked atoms)) ws p) at_clauses g in rw (l.is, b.is) (ap Err b.told)
 
-    pub clauses_read : {k q : ℕ} → r ≡ Counted k q → Sectioned (marked atoms) code_marked 0 129 ws p k q
+    pub clauses_read : {s : Section} → r ≡ Ok s → Sectioned (marked atoms) code_marked 0 129 ws p s
     clauses_read g = sectioned (reads_marked atoms) 0 129 ws p l.within at_clauses g
 
-  module _ {c q : ℕ} (s : Sectioned (marked (length l.ls)) code_marked 0 129 ws p c q) where
-    module _ {r : Section} (f : r ≡ item_after item.Credential (p - 1) 0 0 33 ws q) where
-      at_creds : r ≡ as_section (after (section 0 33 (clause atoms)) ws q)
-      unfolding item_after
-      at_creds = f ∙ ap (λ (n : ℕ). as_section (after (section 0 33 (clause n)) ws q)) atoms_are
+  module _ {c : Section} (s : Sectioned (marked (length l.ls)) code_marked 0 129 ws p c) where
+    module _ {r : Result Section Refusal} (f : r ≡ part_step (λ us q. as_step (clause (p - 1) us q)) 0 33 ws c.next) where
+      at_creds : r ≡ as_section (after (section 0 33 (clause atoms)) ws c.next)
+      at_creds = f ∙ told_part (clause (p - 1)) 0 33 ws c.next ∙ ap (λ (n : ℕ). as_section (after (section 0 33 (clause n)) ws c.next)) atoms_are
 
-      pub creds_bad : {e x w : ℕ} → r ≡ Refused e x w → form.Refused e x w ≡ as_form (dossier ws)
-      unfolding dossier sections as_form
-      creds_bad g = rw (l.is, s.is, uncounted _ at_creds g)
+      pub creds_bad : {x : Refusal} → r ≡ Err x → Err x ≡ as_form (dossier ws)
+      unfolding dossier sections answer
+      creds_bad g = let b = failed _ (after (section 0 33 (clause atoms)) ws c.next) at_creds g in rw (l.is, s.is, b.is) (ap Err b.told)
 
-      pub creds_read : {k x : ℕ} → r ≡ Counted k x → Sectioned (clause atoms) code_clause 0 33 ws q k x
-      creds_read g = sectioned (reads_clause atoms) 0 33 ws q s.within at_creds g
+      pub creds_read : {k : Section} → r ≡ Ok k → Sectioned (clause atoms) code_clause 0 33 ws c.next k
+      creds_read g = sectioned (reads_clause atoms) 0 33 ws c.next s.within at_creds g
 
-    module _ {m x : ℕ} (k : Sectioned (clause (length l.ls)) code_clause 0 33 ws q m x) {r : Section} (f : r ≡ as_asked x (asked (p - 1) m ws x)) where
-      at_asked : r ≡ as_asked x (asked atoms (length k.xs) ws x)
-      at_asked = f ∙ ap (λ (n : ℕ). as_asked x (asked n m ws x)) atoms_are ∙ ap (λ (j : ℕ). as_asked x (asked atoms j ws x)) k.count
+    module _ {d : Section} (k : Sectioned (clause (length l.ls)) code_clause 0 33 ws c.next d) {r : Result Section Refusal} (f : r ≡ as_asked d.next (asked (p - 1) d.count ws d.next)) where
+      abbrev these : Out Asked
+      these = asked atoms (length k.xs) ws d.next
 
-      pub secret_within : {j t : ℕ} → r ≡ Counted j t → t ≤ length ws
-      secret_within g =
-          let (a, y, e, u, v) = asked_read x (asked atoms (length k.xs) ws x) at_asked g in
-          omega (arith, v, ok_got (ok_asked atoms (length k.xs) (omega (arith, l.few)) ws x k.within) e)
+      at_asked : r ≡ as_asked d.next these
+      at_asked = f ∙ ap (λ (n : ℕ). as_asked d.next (asked n d.count ws d.next)) atoms_are ∙ ap (λ (j : ℕ). as_asked d.next (asked atoms j ws d.next)) k.count
 
-      pub rest_bad : {e y w : ℕ} → r ≡ Refused e y w → form.Refused e y w ≡ as_form (dossier ws)
-      unfolding dossier sections as_form
-      rest_bad g = rw (l.is, s.is, k.is, asked_is (whole l.ls s.xs k.xs) atoms (length k.xs) ws x, asked_refused x (asked atoms (length k.xs) ws x) at_asked g)
+      pub rest_bad : {x : Refusal} → r ≡ Err x → Err x ≡ as_form (dossier ws)
+      unfolding dossier sections answer
+      rest_bad g =
+          let b = failed _ these at_asked g in
+          rw (l.is, s.is, k.is, asked_is (whole l.ls s.xs k.xs) atoms (length k.xs) ws d.next, b.is) (ap Err b.told)
 
-      pub all_read : {j t : ℕ} → r ≡ Counted j t → form.Sound (record { atoms = p - 1; clauses = p + 1; nclauses = c; creds = q + 1; ncreds = m; probes = x + 1; nprobes = j; secret = t + 1 }) ≡ as_form (dossier ws)
-      unfolding dossier sections as_form layout_of
-      all_read {j} {t} g = go (asked_read x (asked atoms (length k.xs) ws x) at_asked g)
-        where
-          go : ((a : Asked) × (y : ℕ) × (asked atoms (length k.xs) ws x ≡ got a y) × (j ≡ length a.probes) × (t ≡ x + length (code_many code_entry a.probes))) → form.Sound (record { atoms = p - 1; clauses = p + 1; nclauses = c; creds = q + 1; ncreds = m; probes = x + 1; nprobes = j; secret = t + 1 }) ≡ as_form (dossier ws)
-          go (a, y, e, u, v) = rw (l.is, s.is, k.is, asked_is (whole l.ls s.xs k.xs) atoms (length k.xs) ws x, e, atoms_are, u, v, k.place, s.place, l.place, s.count, k.count)
+      module _ {t : Section} (g : r ≡ Ok t) where
+        abbrev found : Layout
+        found = record { atoms = p - 1; clauses = p + 1; nclauses = c.count; creds = c.next + 1; ncreds = d.count; probes = d.next + 1; nprobes = t.count; secret = t.next + 1 }
+
+        pub all_read : Ok found ≡ as_form (dossier ws)
+        unfolding dossier sections answer layout_of
+        all_read =
+            let b = passed _ these at_asked g in
+            let u : t.count ≡ length b.v.probes = ap (λ (x : Section). x.count) b.told in
+            let v : t.next ≡ d.next + length (code_many code_entry b.v.probes) = ap (λ (x : Section). x.next) b.told in
+            rw (l.is, s.is, k.is, asked_is (whole l.ls s.xs k.xs) atoms (length k.xs) ws d.next, b.is) (cc (atoms_are, u, v, k.place, s.place, l.place, s.count, k.count))

@@ -10,8 +10,7 @@ use lib.ListN.{length, drop, length-append, length-drop}
 use borrow.Author.Tests.{leb-true, eqb-true, le-leb, eq-eqb}
 use Rattle.words.specs.Out.{Out, got, present}
 use Rattle.words.specs.Code.{code_list, RisingFrom}
-use Rattle.words.specs.Read.{listed}
-use Rattle.words.specs.declared.Range.TheVariants.{Below}
+use Rattle.words.specs.Read.{Below, listed}
 use Rattle.words.proofs.Promise.{OK, fine, none, ok_then, ok_need, In, in_got, in_bad, in_then, in_then_ok, in_made, in_need, Spans, spans_join, lies, Reads, reads_as, reads_then, reads_ranged, reads_listed}
 use Rattle.meaning.specs.Tests.{◌∈◌, ◌is◌}
 use Rattle.meaning.specs.Formula.{Formula, always, atom, neg, conj, disj}

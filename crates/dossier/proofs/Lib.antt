@@ -1,6 +1,5 @@
 pub mod Operand
 pub mod Formula
-pub mod Sections
 pub mod Items
 pub mod Refusals
 pub mod Rows

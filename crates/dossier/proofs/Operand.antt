@@ -1,17 +1,20 @@
 -- One step of reading a prefix formula, by the kind of its first word.
 use Prim.Native.Nat.{ℕ, zero, suc, ◌+◌, ◌-◌, ◌<◌, ◌≤◌}
-use mathlib.Core.Path.{◌≡◌, refl, ◌∙◌}
+use mathlib.Core.Path.{◌≡◌, refl, sym, ap, ◌∙◌}
 use mathlib.Core.List.{List}
 use native.Mathlib.Omega.{arith}
 use lib.ListN.{get_or}
 use borrow.Author.Tests.{le-ltb, lt-ltb, eq-eqb, ne_eqb}
-use Rattle.words.specs.Out.{got, bad}
+use Rattle.words.specs.Out.{bad}
 use Rattle.meaning.specs.Tests.{◌is◌, choose}
-use Rattle.meaning.specs.Formula.{Formula}
 use Rattle.dossier.specs.Read.{operand, by_kind}
-use Rattle.words.specs.Answer.{as_step}
-use Rattle.words.specs.declared.Step.TheVariants.{Next, Refused}
-use Rattle.words.proofs.Steps.{step_made, step_bad}
+use Rattle.std.specs.Prelude.{Result, Ok, Err}
+use Rattle.reply.specs.declared.Fault.{Fault}
+use Rattle.reply.specs.declared.Fault.TheVariants as fault
+use Rattle.reply.specs.declared.Refusal.{Refusal}
+use Rattle.reply.specs.Numbers.{number}
+use Rattle.words.specs.Answer.{answer, as_step, at_word}
+use Rattle.words.proofs.Steps.{step_made, answer_fault, failed, stepped}
 use Rattle.dossier.proofs.Formula.{Strange, high, unknown}
 
 not_zero : (d : ℕ) → (d ≡ 0 → ⊥) → d ≡ suc (d - 1)
@@ -22,8 +25,8 @@ module _ (n lp end d : ℕ) (ws : List ℕ) (at : ℕ) where
   unfolding operand
   operand_deep h = rw h
 
-  pub op_deep : d ≡ 0 → as_step (operand n lp end d ws at) ≡ Refused 8 lp 1
-  op_deep h = step_bad (operand_deep h)
+  pub op_deep : d ≡ 0 → as_step (operand n lp end d ws at) ≡ Err (at_word fault.FormulaShape lp)
+  op_deep h = answer_fault _ (operand_deep h)
 
   pub operand_past : end ≤ at → operand n lp end d ws at ≡ bad 8 lp 1
   unfolding operand
@@ -33,8 +36,8 @@ module _ (n lp end d : ℕ) (ws : List ℕ) (at : ℕ) where
       go zero = refl
       go (suc j) = simp (le-ltb _ _ h)
 
-  pub op_past : end ≤ at → as_step (operand n lp end d ws at) ≡ Refused 8 lp 1
-  op_past h = step_bad (operand_past h)
+  pub op_past : end ≤ at → as_step (operand n lp end d ws at) ≡ Err (at_word fault.FormulaShape lp)
+  op_past h = answer_fault _ (operand_past h)
 
   module _ (deep : d ≡ 0 → ⊥) where
     module _ (within : at < end) where
@@ -54,17 +57,17 @@ module _ (n lp end d : ℕ) (ws : List ℕ) (at : ℕ) where
           let g : x ≡ 257 → ⊥ = λ z. omega (arith, z) in
           op_step ∙ simp (w, le-ltb _ _ a, le-ltb _ _ c, ne_eqb _ _ f, ne_eqb _ _ g, lt-ltb _ _ b)
 
-      pub op_strange : {e : ℕ} → Strange n (get_or ws at 0) e → as_step (operand n lp end d ws at) ≡ Refused e at 1
-      op_strange s = step_bad (operand_strange refl s)
+      pub op_strange : (f : Fault) → Strange n (get_or ws at 0) (number f) → as_step (operand n lp end d ws at) ≡ Err (at_word f at)
+      op_strange f s = answer_fault _ (operand_strange refl s)
 
-      pub op_atom : get_or ws at 0 < n → as_step (operand n lp end d ws at) ≡ Next (at + 1)
-      unfolding by_kind as_step choose ◌is◌
+      pub op_atom : get_or ws at 0 < n → as_step (operand n lp end d ws at) ≡ Ok (at + 1)
+      unfolding by_kind answer choose ◌is◌
       op_atom h = rw op_step (simp (lt-ltb _ _ h))
 
       module _ (h₁ : n ≤ get_or ws at 0) where
         module _ (h₂ : 256 ≤ get_or ws at 0) where
-          pub op_true : get_or ws at 0 ≡ 256 → as_step (operand n lp end d ws at) ≡ Next (at + 1)
-          unfolding by_kind as_step choose ◌is◌
+          pub op_true : get_or ws at 0 ≡ 256 → as_step (operand n lp end d ws at) ≡ Ok (at + 1)
+          unfolding by_kind answer choose ◌is◌
           op_true h = rw op_step (simp (le-ltb _ _ h₁, le-ltb _ _ h₂, eq-eqb _ _ h))
 
           module _ (h₃ : get_or ws at 0 ≡ 256 → ⊥) where
@@ -74,10 +77,10 @@ module _ (n lp end d : ℕ) (ws : List ℕ) (at : ℕ) where
 
             module _ (h₄ : get_or ws at 0 ≡ 257 → ⊥) where
               module _ (h₅ : get_or ws at 0 ≤ 259) where
-                pub op_bad : {e q w : ℕ} → operand n lp end (d - 1) ws (at + 1) ≡ bad e q w → as_step (operand n lp end d ws at) ≡ Refused e q w
-                unfolding by_kind as_step choose ◌is◌
-                op_bad h = rw op_step (simp (le-ltb _ _ h₁, le-ltb _ _ h₂, ne_eqb _ _ h₃, ne_eqb _ _ h₄, le-ltb _ _ h₅, h))
+                pub op_bad : {r : Result ℕ Refusal} {x : Refusal} → r ≡ as_step (operand n lp end (d - 1) ws (at + 1)) → r ≡ Err x → as_step (operand n lp end d ws at) ≡ Err x
+                unfolding by_kind answer choose ◌is◌
+                op_bad t g = let b = failed _ (operand n lp end (d - 1) ws (at + 1)) t g in rw op_step (simp (le-ltb _ _ h₁, le-ltb _ _ h₂, ne_eqb _ _ h₃, ne_eqb _ _ h₄, le-ltb _ _ h₅, b.is) (ap Err (sym b.told)))
 
-                pub op_both : {p : ℕ} → ((v : Formula) × (operand n lp end (d - 1) ws (at + 1) ≡ got v p)) → as_step (operand n lp end d ws at) ≡ as_step (operand n lp end (d - 1) ws p)
+                pub op_both : {r : Result ℕ Refusal} {p : ℕ} → r ≡ as_step (operand n lp end (d - 1) ws (at + 1)) → r ≡ Ok p → as_step (operand n lp end d ws at) ≡ as_step (operand n lp end (d - 1) ws p)
                 unfolding by_kind choose ◌is◌
-                op_both h = rw op_step (simp (le-ltb _ _ h₁, le-ltb _ _ h₂, ne_eqb _ _ h₃, ne_eqb _ _ h₄, le-ltb _ _ h₅, h.1, step_made))
+                op_both t g = let h = stepped (operand n lp end (d - 1) ws (at + 1)) t g in rw op_step (simp (le-ltb _ _ h₁, le-ltb _ _ h₂, ne_eqb _ _ h₃, ne_eqb _ _ h₄, le-ltb _ _ h₅, h.1, step_made))

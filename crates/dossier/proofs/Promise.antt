@@ -6,11 +6,12 @@ use native.Mathlib.Omega.{arith}
 use lib.ListN.{length}
 use Rattle.words.specs.Code.{code_list, code_all, code_many}
 use Rattle.words.proofs.Promise.{ok_got, Reads, reads_as, reads_bind, reads_made, reads_ranged, decoded_once}
+use Rattle.words.proofs.Sections.{told_part}
 use Rattle.words.proofs.Parts.{reads_after}
 use Rattle.promise.specs.Code.{code_marked, code_clause, code_entry, code_dossier}
 use Rattle.promise.specs.Form.{EntryForm, DossierForm}
-use Rattle.dossier.specs.Read.{secret, sections, dossier}
-use Rattle.dossier.specs.Promise.{DossierSound, DossierAccepted, DossierOnce, DossierShows, DossierRows, DossierLongest}
+use Rattle.dossier.specs.Read.{clause, marked, entry, secret, sections, dossier}
+use Rattle.dossier.specs.Promise.{DossierSound, DossierAccepted, DossierOnce, DossierShows, DossierRows, SectionsTold, DossierLongest}
 use Rattle.dossier.proofs.Items.{reads_clause, reads_marked, reads_entry}
 use Rattle.dossier.proofs.Rows.{reads_labels, reads_part, refuses_sections, ok_whole, exact_whole, refused_row, row_refused}
 use Rattle.dossier.proofs.Longest.{dossier_most, dossier_full}
@@ -66,6 +67,9 @@ dossier_shows ws e p w h = refused_row reads_sections refuses_sections ws h
 pub dossier_rows : DossierRows
 unfolding dossier
 dossier_rows ws e p us row = row_refused reads_sections refuses_sections ws row
+
+pub sections_told : SectionsTold
+sections_told lo hi ws p = (λ n. told_part (marked n) lo hi ws p, λ n. told_part (clause n) lo hi ws p, λ n m. told_part (entry n m) lo hi ws p)
 
 pub dossier_longest : DossierLongest
 dossier_longest = (dossier_most, dossier_full)

@@ -10,8 +10,7 @@ use lib.ListN.{length, get_or, drop, length-append, drop_of_length-le}
 use borrow.Author.Tests.{leb-true, leb-false, le-leb, lt-leb}
 use Rattle.words.specs.Out.{Out, got, bad, then, need, after}
 use Rattle.words.specs.Code.{code_list, code_all, code_many}
-use Rattle.words.specs.Read.{listed, section}
-use Rattle.words.specs.declared.Range.TheVariants.{Any}
+use Rattle.words.specs.Read.{Any, listed, section}
 use Rattle.words.proofs.Promise.{OK, fine, none, ok_then, ok_need, Spans, spans_word, Reads, reads_as, reads_ranged, reads_listed, reads_section}
 use Rattle.words.proofs.Parts.{reads_after}
 use Rattle.promise.specs.Code.{code_marked, code_clause, code_entry}

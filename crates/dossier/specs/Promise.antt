@@ -1,11 +1,14 @@
 -- What the reader promises of a dossier, each as a type; proofs/Promise.antt has each under the same name in small letters.
 use Rattle.std.specs.Prelude.{ℕ, ◌≤◌, ◌≡◌, List, length}
-use Rattle.words.specs.Out.{got, bad}
+use Rattle.words.specs.Out.{got, bad, after}
+use Rattle.words.specs.Read.{section}
+use Rattle.words.specs.Answer.{as_step}
+use Rattle.words.specs.Items.{part_step, as_section}
 use Rattle.meaning.specs.Papers.{Dossier}
 use Rattle.promise.specs.Code.{code_dossier}
 use Rattle.promise.specs.Form.{DossierForm}
 use Rattle.promise.specs.Table.{DossierRow}
-use Rattle.dossier.specs.Read.{dossier}
+use Rattle.dossier.specs.Read.{clause, marked, entry, dossier}
 
 -- What is accepted is the code of a well-formed dossier, to the last word.
 abbrev pub DossierSound : Type 0
@@ -25,6 +28,14 @@ DossierShows = (ws : List ℕ) (e p w : ℕ) → dossier ws ≡ bad e p w → (u
 
 abbrev pub DossierRows : Type 0
 DossierRows = (ws : List ℕ) (e p : ℕ) (us : List ℕ) → DossierRow ws e p us → dossier ws ≡ bad e p (length us)
+
+-- A section is answered as it is read, for each kind of item of a dossier and all limits of its count.
+abbrev pub SectionsTold : Type 0
+SectionsTold =
+    (lo hi : ℕ) (ws : List ℕ) (p : ℕ)
+    → ((n : ℕ) → part_step (λ us q. as_step (marked n us q)) lo hi ws p ≡ as_section (after (section lo hi (marked n)) ws p))
+    × ((n : ℕ) → part_step (λ us q. as_step (clause n us q)) lo hi ws p ≡ as_section (after (section lo hi (clause n)) ws p))
+    × ((n m : ℕ) → part_step (λ us q. as_step (entry n m us q)) lo hi ws p ≡ as_section (after (section lo hi (entry n m)) ws p))
 
 -- "The longest sound dossier has 8,167 words."
 abbrev pub DossierLongest : Type 0

@@ -1,8 +1,7 @@
 -- The dossier, read from left to right (01, "The two papers"). n is the number of atoms, m that of the credentials.
 use Rattle.std.specs.Prelude.{ℕ, zero, suc, ◌+◌, List, length, get_or, ltb, leb, eqb}
 use Rattle.words.specs.Out.{Out, got, bad, then, made, need, present, after}
-use Rattle.words.specs.Read.{ranged, listed, section}
-use Rattle.words.specs.declared.Range.TheVariants.{Any, Below}
+use Rattle.words.specs.Read.{Any, Below, ranged, listed, section}
 use Rattle.meaning.specs.Tests.{◌is◌, choose}
 use Rattle.meaning.specs.Policy.{Clause}
 use Rattle.meaning.specs.Formula.{Formula, always, atom, neg, conj, disj}

@@ -1,16 +1,17 @@
 -- An entry's answer and the rounds that first add each atom, from the table after 64 rounds.
-use Prim.Native.Nat.{ℕ, zero, suc, ◌+◌, ◌-◌, ◌<◌, ◌≤◌}
+use Prim.Native.Nat.{ℕ, zero, suc, ◌<◌, ◌≤◌}
 use mathlib.Core.Path.{◌≡◌, refl, sym, ap, ap₂, ◌∙◌, subst}
-use mathlib.Core.Bool.{Bool, true, not}
+use mathlib.Core.Bool.{Bool, true, false, not}
+use mir.Val.{bool_byte}
 use mathlib.Core.List.{List, [], ◌∷◌, ◌++◌}
 use native.Mathlib.Omega.{arith}
-use lib.ListN.{length, get_or, take, drop, replicate, length-replicate}
+use lib.ListN.{length, get_or, take, drop, replicate}
 use lib.Seq.{take_at}
-use Rattle.meaning.specs.Tests.{◌∈◌, ◌and◌, ◌or◌, ◌is◌, same}
+use Rattle.meaning.specs.Tests.{◌∈◌, ◌and◌, ◌or◌, same}
 use Rattle.meaning.specs.Policy.{Clause, Policy, holds, first_round}
 use Rattle.meaning.specs.Formula.{Formula, always, atom, neg, conj, disj, read, joined, given, truth}
 use Rattle.meaning.specs.Papers.{Marked, answer}
-use Rattle.meaning.proofs.Tests.{and_both, clash, is_refl, same→≡}
+use Rattle.meaning.proofs.Tests.{same→≡}
 use Rattle.promise.specs.Code.{bit}
 use Rattle.promise.specs.Form.{FormulaForm}
 use Rattle.promise.specs.Place.{many, place, Fit, Starts, rows, filled}
@@ -23,7 +24,11 @@ use Rattle.promise.proofs.Place.{fit_each, rows_length, rows_get, rows_are}
 use Rattle.evaluation.specs.Table.{has, in_table}
 use Rattle.evaluation.specs.Which.{policy_at, joined_at, WhichFits, Sources, Ready}
 use Rattle.evaluation.specs.Answer.{answer_of, answer_word, round_of}
-use Rattle.evaluation.specs.Held.{table_of, Held, last_of, read_in}
+use Rattle.evaluation.specs.Held.{table_of, read_in}
+use Rattle.evaluation.specs.Policy.{Asked, Keeps, kept_at, table_in}
+use Rattle.evaluation.specs.Posed.{Posed}
+use Rattle.evaluation.specs.declared.Kept.{Kept}
+use Rattle.std.specs.Prelude.{None, Some}
 use Rattle.evaluation.specs.declared.Which.{Which}
 use Rattle.evaluation.specs.declared.Which.TheVariants.{Own, Tried}
 use Rattle.evaluation.proofs.Atoms.{BelowOne, own_below, tried_below, sent_below}
@@ -74,9 +79,6 @@ take_zeros (suc n) (suc m) h = ap (λ (l : List ℕ). 0 ∷ l) (take_zeros n m (
 pub zeros : {z : List ℕ} → z ≡ replicate 64 0 → (n : ℕ) → n ≤ 64 → take n z ≡ replicate n 0
 zeros e n small = ap (take n) e ∙ take_zeros n 64 small
 
-pub zeros_size : {z : List ℕ} → z ≡ replicate 64 0 → (n : ℕ) → n ≤ 64 → n ≡ length (take n z)
-zeros_size e n small = sym (ap length (zeros e n small) ∙ length-replicate {A = ℕ} n 0)
-
 -- the table after the rounds, back in the longer one that was lent for it
 pub run_back : (f : ℕ → ℕ) (n : ℕ) {z t : List ℕ} → z ≡ replicate 64 0 → t ≡ rows f n → t ++ drop n z ≡ filled f n (replicate 64 0)
 unfolding filled
@@ -96,13 +98,17 @@ first_part : (f : ℕ → ℕ) (n : ℕ) (old : List ℕ) {t : List ℕ} → t �
 unfolding filled
 first_part f n old e = ap (take n) e ∙ take_at (rows f n) (drop n old) n (rows_length f n)
 
+-- what firing asks, of a policy whose places are known
+pub asked_sources : {d : List ℕ} {o : Layout} {creds w : List ℕ} {which : Which} {e : EntryAt} → Ready d o creds w which → Asked (record { words = d; layout = o; witness = w; which = which }) e → Sources d o creds w which e
+asked_sources r a = record { ready = r; there = a.there; names = a.names }
+
+pub entry_asked : (P : Posed) (p : ℕ) {e : EntryAt} → EntryFits P.layout.atoms P.layout.ncreds P.words p → e ≡ entry_at P.words p → Asked P e
+entry_asked P p fits seen = rw seen (record { there = omega (arith, fits.ends); names = fits.creds })
+
 -- ---- the answer
 
 -- all that is known of the entry at p, whose view is e
 module _ {d : List ℕ} {o : Layout} {creds w : List ℕ} {which : Which} (ready : Ready d o creds w which) {p : ℕ} (fits : EntryFits o.atoms o.ncreds d p) {e : EntryAt} (seen : e ≡ entry_at d p) where
-  pub sources : Sources d o creds w which e
-  sources = rw seen (record { ready = ready; there = omega (arith, fits.ends); names = fits.creds })
-
   abbrev J : Policy
   J = joined (dossier_at d o).creds (policy_at d o w which) (entry_of d (entry_at d p)).creds []
 
@@ -141,41 +147,39 @@ pub read_view : (p : ℕ) (d : List ℕ) (t : List ℕ) {e : EntryAt} → e ≡ 
 unfolding read_in
 read_view p d t seen = ap (λ (v : EntryAt). read (in_table t) (formula_at 16 d v.formula)) seen
 
--- ---- what is held from one entry to the next
-
-pub last_none : (t : List ℕ) (k : ℕ) → k ≡ 0 → last_of t k ≡ 0
-unfolding last_of
-last_none t k e = rw e
-
-pub last_some : (t : List ℕ) (k : ℕ) → (k ≡ 0 → ⊥) → last_of t k ≡ get_or t (k - 1) 0
-unfolding last_of
-last_some t zero n = absurd (n refl)
-last_some t (suc k) n = ap (λ (j : ℕ). get_or t j 0) (omega arith)
-
--- at first nothing is held; after the entry whose place is number k of a table, what holds there is
-module _ (d : List ℕ) (o : Layout) (w : List ℕ) (which : Which) (t : List ℕ) where
-  pub held_none : (u : List ℕ) → Held d o w which (last_of t 0) u
-  unfolding Held last_of
-  held_none u z = absurd (z refl)
-
-  held_on : (k : ℕ) {u : List ℕ} → EntryFits o.atoms o.ncreds d (get_or t k 0) → u ≡ table_of d o w which (entry_at d (get_or t k 0)) → Held d o w which (last_of t (k + 1)) u
-  unfolding Held last_of
-  held_on k fits e z =
-      let one : k + 1 ≡ suc k = omega arith in
-      rw one (fits, e)
+-- ---- what is kept from one entry to the next
 
 -- the same credentials give the same table
 alike_table : (d : List ℕ) (o : Layout) (w : List ℕ) (which : Which) (f e : EntryAt) → same (entry_of d f).creds (entry_of d e).creds ≡ true → table_of d o w which f ≡ table_of d o w which e
 unfolding table_of joined_at
 alike_table d o w which f e h = ap (λ (S : List ℕ). filled (first_round (joined (dossier_at d o).creds (policy_at d o w which) S [])) o.atoms (replicate 64 0)) (same→≡ h)
 
-pub held_alike : (d : List ℕ) (o : Layout) (w : List ℕ) (which : Which) (last p : ℕ) (t : List ℕ) {e : EntryAt} {b : Bool} → Held d o w which last t → e ≡ entry_at d p
-    → b ≡ (not (last is 0) and same (entry_of d (entry_at d last)).creds (entry_of d e).creds) → b ≡ true → t ≡ table_of d o w which (entry_at d p)
-unfolding Held
-held_alike d o w which last p t held seen g h =
-    let r = and_both (sym g ∙ h) in
-    let there : last ≡ 0 → ⊥ = λ z. clash r.0 (ap (λ (j : ℕ). not (j is 0)) z ∙ ap not (is_refl 0)) in
-    (held there).1 ∙ alike_table d o w which _ _ r.1 ∙ ap (table_of d o w which) seen
+-- what is kept of an entry serves at the entry at p, whose view is e, where that has the same credentials
+pub kept_alike : (P : Posed) (k : Kept) (p : ℕ) {e : EntryAt} {b : Bool} → Keeps P (Some k) → e ≡ entry_at P.words p
+    → b ≡ same (entry_of P.words (entry_at P.words k.entry)).creds (entry_of P.words e).creds → b ≡ true → k.table ≡ table_in P (entry_at P.words p)
+unfolding Keeps
+kept_alike P k p held seen g h =
+    ap (λ (x : Kept). x.table) held.1 ∙ alike_table P.words P.layout P.witness P.which _ _ (sym g ∙ h) ∙ ap (table_in P) seen
+
+pub kept_ends : (P : Posed) (k : Kept) → Keeps P (Some k) → (entry_at P.words k.entry).next ≤ length P.words
+unfolding Keeps
+kept_ends P k held = held.0.ends
+
+pub kept_as : (P : Posed) (p : ℕ) {t : List ℕ} → t ≡ table_in P (entry_at P.words p) → record { entry = p; table = t } ≡ kept_at P p
+kept_as P p e = rw e
+
+pub kept_none : (P : Posed) → Keeps P None
+unfolding Keeps
+kept_none P = tt
+
+pub kept_some : (P : Posed) {k : Kept} (p : ℕ) → EntryFits P.layout.atoms P.layout.ncreds P.words p → k ≡ kept_at P p → Keeps P (Some k)
+unfolding Keeps
+kept_some P p fits e = rw e (fits, refl)
+
+-- an answer as a word, as the library converts it
+pub byte_bit : (b : Bool) → bool_byte b ≡ bit b
+byte_bit true = refl
+byte_bit false = refl
 
 -- ---- probe j, through the table of starts
 
@@ -197,9 +201,6 @@ module _ {d : List ℕ} {o : Layout} {creds w : List ℕ} {which : Which} (ready
   probe_there = probe_fits d o probes s j h ready.laid
 
   module _ {t : List ℕ} (found : t ≡ table_of d o w which (entry_at d (get_or probes j 0))) where
-    pub probe_size : o.atoms ≡ length (take o.atoms t)
-    probe_size = table_size ready probe_there refl found
-
     pub probe_reads : ((entry_at d (get_or probes j 0)).next ≤ length d) × FormulaFits (length (take o.atoms t)) 16 d (entry_at d (get_or probes j 0)).formula
     probe_reads = (probe_there.ends, table_fits ready probe_there refl found)
 
@@ -208,6 +209,3 @@ module _ {d : List ℕ} {o : Layout} {creds w : List ℕ} {which : Which} (ready
 
     pub probe_rounds : (old : List ℕ) {u : List ℕ} → u ≡ take o.atoms t ++ drop (length (take o.atoms t)) old → u ≡ filled (round_of d o w which (get_or probes j 0)) o.atoms old
     probe_rounds old g = rounds_are ready probe_there refl found old g
-
-    pub probe_held : Held d o w which (last_of probes (j + 1)) t
-    probe_held = held_on d o w which probes j probe_there found

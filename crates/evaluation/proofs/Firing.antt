@@ -13,13 +13,15 @@ use Rattle.meaning.specs.Policy.{Clause, Policy}
 use Rattle.meaning.specs.Formula.{pick, chosen, joined}
 use Rattle.meaning.specs.Papers.{Marked, policy, visible}
 use Rattle.meaning.specs.Verdict.{tried}
-use Rattle.promise.specs.Place.{Kind, part, many, place, Fit, Starts}
-use Rattle.promise.specs.Clause.{clause_at, clause_of, ClauseFits, credential, marked}
+use Rattle.promise.specs.Place.{part, many, place, Fit, Starts}
+use Rattle.promise.specs.Clause.{clause_at, clause_of, ClauseFits, credential, marked_of, marked}
+use Rattle.promise.specs.declared.MarkedAt.{MarkedAt}
+use Rattle.std.proofs.Common.{◌⊎◌, inl, inr}
 use Rattle.promise.specs.Layout.{dossier_at}
 use Rattle.promise.specs.declared.ClauseAt.{ClauseAt}
 use Rattle.promise.specs.declared.EntryAt.{EntryAt}
 use Rattle.promise.specs.declared.Layout.{Layout}
-use Rattle.promise.proofs.Place.{part_none, part_cons, place_next, many_none, many_on, many_at, fit_first, fit_on}
+use Rattle.promise.proofs.Place.{part_none, part_cons, place_next, many_at}
 use Rattle.evaluation.specs.Table.{has, before, fire_one, fire_all}
 use Rattle.evaluation.specs.Which.{Fires, kept, fire_marked, named_at, NamedFits, named, policy_at, joined_at, WhichFits, Sources}
 use Rattle.evaluation.specs.declared.Which.{Which}
@@ -111,6 +113,17 @@ marked_length b r m new = go (b or m.visible)
     go true = fire_length r m.clause new
     go false = refl
 
+-- a clause of the dossier is fired where every clause counts or it is visible, and else the table stays
+pub marked_fires : (every : Bool) (r : ℕ) (ws : List ℕ) (m : MarkedAt) (t : List ℕ) → (every ≡ true) ⊎ (m.visible ≡ true) → fire_one r (clause_of ws m.clause) t ≡ fire_marked every r (marked_of ws m) t
+unfolding fire_marked choose ◌or◌
+marked_fires true r ws m t h = refl
+marked_fires false r ws m t (inl e) = let c : false ≡ true = e in cc
+marked_fires false r ws m t (inr e) = rw e
+
+pub marked_stays : {every : Bool} (r : ℕ) (ws : List ℕ) (m : MarkedAt) (t : List ℕ) → every ≡ false → m.visible ≡ false → t ≡ fire_marked every r (marked_of ws m) t
+unfolding fire_marked choose ◌or◌
+marked_stays r ws m t e f = rw (e, f)
+
 -- ---- the loops that fire
 
 -- a way to go over a list with a table: the whole list, and one thing of it
@@ -126,31 +139,6 @@ firing r = record { whole = fire_all r; one = fire_one r; none = fire_all_none r
 
 abbrev pub keeping : Bool → ℕ → Fold Marked
 keeping b r = record { whole = λ l. fire_all r (kept b l); one = fire_marked b r; none = kept_none b r; more = kept_more b r; long = marked_length b r }
-
--- going over the k things from p on, on the first table, is going over those that are left, on the table so far
-pub record Left {A : Type 0} (F : Fold A) (K : Kind A) (ws : List ℕ) (p k : ℕ) (first : List ℕ) (here left : ℕ) (t : List ℕ) : Type 0 where
-  pub same : F.whole (many K ws p k) first ≡ F.whole (many K ws here left) t
-  pub fit : Fit K ws here left
-  pub size : length t ≡ length first
-
-module _ {A : Type 0} (F : Fold A) (K : Kind A) (ws : List ℕ) (p k : ℕ) (first : List ℕ) where
-  pub left_all : Fit K ws p k → Left F K ws p k first p k first
-  left_all f = record { same = refl; fit = f; size = refl }
-
-  module _ {here left : ℕ} {t : List ℕ} (l : Left F K ws p k first here left t) where
-    pub left_first : 0 < left → K.ok ws here
-    left_first h = fit_first K ws here left h l.fit
-
-    pub left_on : 0 < left → {r : ℕ} {u : List ℕ} → r ≡ K.next ws here → u ≡ F.one (K.read ws here) t → Left F K ws p k first r (left - 1) u
-    left_on h {r} {u} e f =
-        record {
-          same = l.same ∙ ap (λ (x : List A). F.whole x t) (many_on K ws here left h) ∙ F.more _ _ t ∙ rw (f, e);
-          fit = rw e (fit_on K ws here left h l.fit);
-          size = ap length f ∙ F.long _ t ∙ l.size;
-        }
-
-    pub left_none : left ≤ 0 → t ≡ F.whole (many K ws p k) first
-    left_none h = sym (l.same ∙ ap (λ (x : List A). F.whole x t) (many_none K ws here left h) ∙ F.none t)
 
 -- ---- chosen credentials: those that the numbers name, through the table of where each begins
 

@@ -1,4 +1,5 @@
 pub mod Firing
+pub mod Fired
 pub mod Rounds
 pub mod Entry
 pub mod Atoms

@@ -1,7 +1,7 @@
 -- The rounds on a table give each atom the number of the round that first adds it.
 use Prim.Native.Nat.{ℕ, zero, suc, ◌+◌, ◌<◌, ◌≤◌}
 use mathlib.Core.Path.{◌≡◌, refl, sym, ap, ap₂, ◌∙◌}
-use mathlib.Core.Bool.{Bool, true, false, not}
+use mathlib.Core.Bool.{Bool, true, false, not, ◌||◌}
 use mathlib.Core.List.Memᴰ
 use mathlib.Core.List.{List, [], ◌∷◌}
 use mathlib.Core.Logic.{◌⊎◌, inl, inr}
@@ -9,7 +9,8 @@ use native.Mathlib.Omega.{arith}
 use native.Mathlib.Decide.{ℕ_discrete}
 use lib.ListN.{length, get_or, set, replicate, length-replicate, get_or-replicate}
 use lib.Seq.{get_or-set_same, get_or-set_other}
-use lib.Dec.{ltb}
+use lib.Dec.{eqb, ltb}
+use Rattle.std.specs.List.{list_any}
 use borrow.Author.Tests.{lt-ltb, le-ltb}
 use Rattle.meaning.specs.Tests.{◌∈◌, ◌and◌, ◌or◌, ◌is◌, all, any, choose}
 use Rattle.meaning.specs.Policy.{Clause, Policy, round, after, holds, first_of, first_round}
@@ -20,6 +21,16 @@ use Rattle.promise.specs.Place.{rows}
 use Rattle.promise.proofs.Place.{rows_length, rows_get, rows_are, rows_same}
 use Rattle.evaluation.specs.Table.{has, before, fire_one, fire_all}
 use Rattle.evaluation.proofs.Firing.{fire_length, fire_all_length}
+
+-- whether a byte is the round's number, as the library's `any` tests it
+pub any_list : (r : ℕ) (t : List ℕ) → list_any (λ (x : ℕ). eqb x r) t ≡ any (λ x. x is r) t
+unfolding any ◌is◌ ◌or◌
+any_list r [] = refl
+any_list r (x ∷ t) = ap (λ (b : Bool). eqb x r || b) (any_list r t) ∙ go (eqb x r) (any (λ y. y is r) t)
+  where
+    go : (a b : Bool) → (a || b) ≡ (a or b)
+    go true b = refl
+    go false b = refl
 
 -- the policy's atoms are below n
 abbrev pub Below : ℕ → Policy → Type 0

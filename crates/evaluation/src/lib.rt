@@ -1,44 +1,62 @@
 // What a policy makes true, on the clauses held as words, and an entry's answer in it.
 #![tactic(auto)]
 
-ghost use Rattle.std.specs.Prelude.{◌≡◌, true, not, ◌++◌, ℕ, ◌+◌, ◌≤◌, ◌<◌, length, drop, replicate};
-ghost use Rattle.meaning.specs.Tests.{◌∈◌, ◌and◌, ◌or◌, ◌is◌, same, all, any, choose};
+ghost use Rattle.std.specs.Prelude.{◌≡◌, ◌++◌, ◌==◌, ℕ, ◌+◌, ◌≤◌, ◌<◌, List, length, drop, replicate};
+ghost use Rattle.std.specs.List.{list_any};
+ghost use Rattle.meaning.specs.Tests.{◌∈◌, ◌is◌, same, all, any};
 ghost use Rattle.meaning.specs.Policy.{first_round};
-ghost use Rattle.meaning.specs.Formula.{read};
-ghost use Rattle.promise.specs.Code.{bit};
-ghost use Rattle.promise.specs.Place.{part, many, Fit, Starts, rows, filled};
-ghost use Rattle.promise.specs.Formula.{FormulaFits, formula_at, formula_end, entry_at, entry_of, EntryFits, entry};
-ghost use Rattle.promise.specs.Clause.{clause_at, clause_of, ClauseFits, credential, marked_at, marked_of, marked};
-ghost use Rattle.promise.specs.Layout.{Laid};
+ghost use Rattle.promise.specs.Place.{part, rows, filled};
+ghost use Rattle.promise.specs.Thing.{Things, clause_next, marked_next};
+ghost use Rattle.promise.specs.Formula.{FormulaFits, entry_at, entry_of, EntryFits};
+ghost use Rattle.promise.specs.Clause.{clause_of};
 ghost use Rattle.evaluation.specs.Table.{has, before, fire_one, fire_all, in_table};
-ghost use Rattle.evaluation.specs.Which.{kept, fire_marked, Fires, NamedFits, named_at, named};
-ghost use Rattle.evaluation.specs.Which.{WhichFits, policy_at, joined_at, Ready, Sources};
-ghost use Rattle.evaluation.specs.Answer.{answer_of, answer_word, round_of};
-ghost use Rattle.evaluation.specs.Held.{table_of, Held, last_of, read_in};
+ghost use Rattle.evaluation.specs.Fired.{fired_all, ClauseFires, clause_fired, MarkedFires, marked_fired, named_end, NamedFires, named_fired};
+ghost use Rattle.evaluation.specs.Which.{Fires, Ready};
+ghost use Rattle.evaluation.specs.Posed.{Posed};
+ghost use Rattle.evaluation.specs.Answer.{answer_word};
+ghost use Rattle.evaluation.specs.Held.{read_in};
+ghost use Rattle.evaluation.specs.Policy.{policy_in, joined_in, table_in, answer_in_policy, round_in, Asked, ProbeStarts, Keeps, kept_at};
 ghost use Rattle.evaluation.specs.declared.Which.TheVariants.{Own};
 
-use promise::{ClauseAt, EntryAt, Layout};
+use promise::{ClauseAt, EntryAt, Layout, Valuation};
+use std::marker::Model;
 
-// The policy that is evaluated: the dossier's own, or its visible clauses with the certificate's so many.
+// Which policy is evaluated: the dossier's own, or its visible clauses with the certificate's so many.
 #[derive(Clone, Copy)]
 pub enum Which {
     Own,
     Tried(usize),
 }
 
-fn either(a: bool, b: bool) -> bool
-    ensures { result ≡ (a or b) }
-{
-    if a { true } else { b }
+// A policy as it lies in the words: the dossier's words as laid out, where each of its credentials begins, the certificate's words, in
+// which the witness that is tried lies, and which policy of them it is. A contract sees it without the table of places.
+#[derive(Drop)]
+pub struct PolicyAt<'a> {
+    pub words: &'a [u16],
+    pub layout: Layout,
+    pub creds: &'a [usize],
+    pub witness: &'a [u16],
+    pub which: Which,
 }
 
-fn both(a: bool, b: bool) -> bool
-    ensures { result ≡ (a and b) }
-{
-    if a { b } else { false }
+impl<'a> Model for PolicyAt<'a> {
+    ghost Value = { Posed };
+
+    ghost view = { λ p. record { words = p.words.now; layout = p.layout; witness = p.witness.now; which = p.which } };
+
+    ghost invariant = { λ p. Ready p.words.now p.layout p.creds.now p.witness.now p.which };
 }
 
-// Whether atom a is in the table, which has for each atom the number of the round that added it, or 0.
+// What holds at an entry, for each atom the number of the round that first adds it: kept for the next entry.
+#[derive(Clone, Copy)]
+pub struct Kept {
+    pub entry: usize,
+    pub table: [u8; 64],
+}
+
+// ---- firing: a table has for each atom the number of the round that added it, or 0
+
+// Whether atom a is in the table.
 fn is_there(table: &[u8], a: usize) -> bool
     requires { a < length table.now }
     ensures { result ≡ has table.now a }
@@ -51,11 +69,7 @@ fn was_there(table: &[u8], a: usize, round: u8) -> bool
     requires { a < length table.now }
     ensures { result ≡ before round table.now a }
 {
-    if is_there(table, a) {
-        table[a] < round
-    } else {
-        false
-    }
+    is_there(table, a) && table[a] < round
 }
 
 // Whether each of the k atoms from p on was there before this round.
@@ -63,14 +77,10 @@ fn body_holds(s: &[u16], p: usize, k: usize, round: u8, table: &[u8]) -> bool
     requires { (p + k ≤ length s.now) × ((x : ℕ) → x ∈ part s.now p k → x < length table.now) }
     ensures { result ≡ all (before round table.now) (part s.now p k) }
 {
-    let mut left = k;
-    let mut at = p;
-    while 0 < left {
-        if !was_there(table, promise::word(s, at), round) {
+    for x in &s[p..p + k] {
+        if !was_there(table, usize::from(*x), round) {
             return false;
         }
-        at += 1;
-        left -= 1;
     }
     true
 }
@@ -80,157 +90,102 @@ fn fire(s: &[u16], c: ClauseAt, round: u8, table: &mut [u8])
     requires { Fires (length table.old) s.now c }
     ensures { table.new ≡ fire_one round (clause_of s.now c) table.old }
 {
-    let p = c.body;
-    let k = c.count;
-    let h = c.head;
-    if !is_there(table, h) && body_holds(s, p, k, round, table) {
-        table[h] = round;
+    if !is_there(table, c.head) && body_holds(s, c.body, c.count, round, table) {
+        table[c.head] = round;
     }
 }
 
-// The same, if b.
-fn fire_if(s: &[u16], c: ClauseAt, b: bool, round: u8, table: &mut [u8])
-    requires { Fires (length table.old) s.now c }
-    ensures { table.new ≡ choose b (fire_one round (clause_of s.now c) table.old) table.old }
-{
-    if b {
+// What is fired one after the other, each at a place of the words.
+trait Fireable {
+    // Where the next stands, the table after a round's firing of one, and what that asks, of tables so long.
+    ghost next: { Self → List ℕ → ℕ → ℕ };
+
+    ghost fired: { Self → ℕ → List ℕ → ℕ → List ℕ → List ℕ };
+
+    ghost ok: { Self → ℕ → List ℕ → ℕ → Type 0 };
+
+    // Fires the one at `at`, and answers the place of the next.
+    fn fire_at(&self, s: &[u16], at: usize, round: u8, table: &mut [u8]) -> usize
+        requires { ok self.now (length table.old) s.now at }
+        ensures { (result ≡ next self.now s.now at) × (table.new ≡ fired self.now round s.now at table.old) };
+}
+
+// The clauses of a witness.
+#[derive(Clone, Copy)]
+struct Clauses;
+
+impl Fireable for Clauses {
+    ghost next = { λ _. clause_next };
+
+    ghost fired = { λ _. clause_fired };
+
+    ghost ok = { λ _. ClauseFires };
+
+    fn fire_at(&self, s: &[u16], at: usize, round: u8, table: &mut [u8]) -> usize {
+        let c = promise::clause_at(s, at);
         fire(s, c, round, table);
+        c.next
     }
 }
 
-// Fires the clause at `at`, and answers the place after it.
-fn fire_at(s: &[u16], at: usize, round: u8, table: &mut [u8]) -> usize
-    requires { ClauseFits (length table.old) s.now at }
-    ensures { (result ≡ (clause_at s.now at).next) × (table.new ≡ fire_one round (clause_of s.now (clause_at s.now at)) table.old) }
-{
-    let c = promise::clause_at(s, at);
-    fire(s, c, round, table);
-    c.next
+// The clauses of the dossier: all of them, or the visible ones.
+#[derive(Clone, Copy)]
+struct Marked {
+    every: bool,
 }
 
-// The k clauses of a witness from p on.
-fn fire_clauses(s: &[u16], p: usize, k: usize, round: u8, table: &mut [u8])
-    requires { Fit (credential (length table.old)) s.now p k }
-    ensures { table.new ≡ fire_all round (many (credential (length table.old)) s.now p k) table.old }
+impl Fireable for Marked {
+    ghost next = { λ _. marked_next };
+
+    ghost fired = { λ it. marked_fired it.every };
+
+    ghost ok = { λ _. MarkedFires };
+
+    fn fire_at(&self, s: &[u16], at: usize, round: u8, table: &mut [u8]) -> usize {
+        let m = promise::marked_at(s, at);
+        if self.every || m.visible {
+            fire(s, m.clause, round, table);
+        }
+        m.clause.next
+    }
+}
+
+// Credentials that their numbers name; the table has where each begins.
+#[derive(Clone, Copy)]
+struct Named<'a> {
+    creds: &'a [usize],
+}
+
+impl Fireable for Named<'_> {
+    ghost next = { λ _. named_end };
+
+    ghost fired = { λ it. named_fired it.creds.now };
+
+    ghost ok = { λ it. NamedFires it.creds.now };
+
+    fn fire_at(&self, s: &[u16], at: usize, round: u8, table: &mut [u8]) -> usize {
+        let i = promise::word(s, at);
+        fire(s, promise::clause_at(s, self.creds[i]), round, table);
+        at + 1
+    }
+}
+
+// Fires the k from p on, one after the other.
+fn fire_each<F: Fireable>(each: &F, s: &[u16], p: usize, k: usize, round: u8, table: &mut [u8])
+    requires { Things (F.next each.now) (F.ok each.now (length table.old)) s.now p k }
+    ensures { table.new ≡ fired_all (F.next each.now s.now) (F.fired each.now round s.now) p k table.old }
 {
     let mut at = p;
-    let mut left = k;
-    while 0 < left {
-        at = fire_at(s, at, round, table);
-        left -= 1;
-    }
-}
-
-// Fires the dossier's clause at `at` if every clause counts or it is visible, and answers the place after it.
-fn fire_marked_at(s: &[u16], at: usize, every: bool, round: u8, table: &mut [u8]) -> usize
-    requires { ClauseFits (length table.old) s.now (at + 1) }
-    ensures { (result ≡ (marked_at s.now at).clause.next) × (table.new ≡ fire_marked every round (marked_of s.now (marked_at s.now at)) table.old) }
-{
-    let m = promise::marked_at(s, at);
-    let c = m.clause;
-    fire_if(s, c, either(every, m.visible), round, table);
-    c.next
-}
-
-// The k clauses of the dossier from p on: all of them, or the visible ones.
-fn fire_marked(s: &[u16], p: usize, k: usize, every: bool, round: u8, table: &mut [u8])
-    requires { Fit (marked (length table.old)) s.now p k }
-    ensures { table.new ≡ fire_all round (kept every (many (marked (length table.old)) s.now p k)) table.old }
-{
-    let mut at = p;
-    let mut left = k;
-    while 0 < left {
-        at = fire_marked_at(s, at, every, round, table);
-        left -= 1;
-    }
-}
-
-// Fires the credential whose number stands at `at`; `creds` has where each credential begins.
-fn fire_named(d: &[u16], creds: &[usize], at: usize, round: u8, table: &mut [u8])
-    requires { NamedFits (length table.old) creds.now d.now at }
-    ensures { table.new ≡ fire_one round (clause_of d.now (named_at creds.now d.now at)) table.old }
-{
-    let i = promise::word(d, at);
-    fire_at(d, creds[i], round, table);
-}
-
-// The credentials that the k numbers from q on name.
-fn fire_chosen(d: &[u16], creds: &[usize], q: usize, k: usize, round: u8, table: &mut [u8])
-    requires { Fit (named (length table.old) creds.now) d.now q k }
-    ensures { table.new ≡ fire_all round (many (named (length table.old) creds.now) d.now q k) table.old }
-{
-    let mut place = q;
-    let mut left = k;
-    while 0 < left {
-        fire_named(d, creds, place, round, table);
-        place += 1;
-        left -= 1;
-    }
-}
-
-// The clauses of the policy that is evaluated.
-fn fire_policy(d: &[u16], o: Layout, w: &[u16], which: Which, round: u8, table: &mut [u8])
-    requires { Laid d.now o × WhichFits o.atoms w.now which × (length table.old ≡ o.atoms) }
-    ensures { table.new ≡ fire_all round (policy_at d.now o w.now which) table.old }
-{
-    let c = o.clauses;
-    let k = o.nclauses;
-    match which {
-        Which::Own => {
-            fire_marked(d, c, k, true, round, table);
-        }
-        Which::Tried(j) => {
-            fire_clauses(w, 2, j, round, table);
-            fire_marked(d, c, k, false, round, table);
-        }
+    for _ in 0..k {
+        at = each.fire_at(s, at, round, table);
     }
 }
 
 // Whether this round added an atom.
 fn adds(table: &[u8], round: u8) -> bool
-    ensures { result ≡ any (λ x. x is round) table.now }
+    ensures { result ≡ list_any (λ x. x == round) table.now }
 {
-    let mut i = 0;
-    while i < table.len() {
-        if table[i] == round {
-            return true;
-        }
-        i += 1;
-    }
-    false
-}
-
-// One round over the policy joined with the entry's credentials. Answers whether it added an atom.
-fn one_round(
-    d: &[u16],
-    o: Layout,
-    creds: &[usize],
-    w: &[u16],
-    which: Which,
-    e: EntryAt,
-    round: u8,
-    table: &mut [u8],
-) -> bool
-    requires { Sources d.now o creds.now w.now which e × (length table.old ≡ o.atoms) }
-    ensures { (table.new ≡ fire_all round (joined_at d.now o w.now which e) table.old) × (result ≡ any (λ x. x is round) table.new) }
-{
-    fire_policy(d, o, w, which, round, table);
-    fire_chosen(d, creds, e.creds, e.count, round, table);
-    adds(table, round)
-}
-
-// The rounds, on a table with no atoms: each atom gets the number of the round that first adds it. It stops at a round that adds none.
-fn run(d: &[u16], o: Layout, creds: &[usize], w: &[u16], which: Which, e: EntryAt, table: &mut [u8])
-    requires { Sources d.now o creds.now w.now which e × (table.old ≡ replicate o.atoms 0) }
-    ensures { table.new ≡ rows (first_round (joined_at d.now o w.now which e)) o.atoms }
-{
-    let mut round = 0u8;
-    while round < 64 {
-        round += 1;
-        if !one_round(d, o, creds, w, which, e, round, table) {
-            return;
-        }
-    }
+    table.iter().any(|x| *x == round)
 }
 
 // No atoms.
@@ -240,70 +195,49 @@ fn none() -> [u8; 64]
     [0u8; 64]
 }
 
-// For each atom the number of the round that first adds it, 0 if none does; and 0 beyond the atoms.
-fn first_rounds(
-    d: &[u16],
-    o: Layout,
-    creds: &[usize],
-    w: &[u16],
-    which: Which,
-    e: EntryAt,
-) -> [u8; 64]
-    requires { Sources d.now o creds.now w.now which e }
-    ensures { result ≡ table_of d.now o w.now which e }
+// Writes the numbers to the start of the table, which is as long or longer; the words beyond stay.
+pub fn widen(src: &[u8], dst: &mut [u16])
+    requires { length src.now ≤ length dst.old }
+    ensures { dst.new ≡ src.now ++ drop (length src.now) dst.old }
 {
-    let n = o.atoms;
-    let mut table = none();
-    run(d, o, creds, w, which, e, &mut table[..n]);
-    table
+    for (i, x) in src.iter().enumerate() {
+        dst[i] = u16::from(*x);
+    }
 }
 
-// The truth of two operands joined by the word x: 258 is and, 259 or.
-fn joined(x: usize, a: bool, b: bool) -> bool
-    ensures { result ≡ choose (x is 258) (a and b) (a or b) }
-{
-    if x == 258 { both(a, b) } else { either(a, b) }
-}
+// ---- formulas
 
-// A truth, and the place after the formula.
+// The atoms that are there, in a table that has them alone.
 #[derive(Clone, Copy)]
-pub struct Truth {
-    pub holds: bool,
-    pub next: usize,
+struct Present<'a> {
+    table: &'a [u8],
 }
 
-// The truth in the table of the formula at `at`, which is at most `deep` deep.
-fn truth_at(s: &[u16], at: usize, deep: usize, table: &[u8]) -> Truth
-    requires { FormulaFits (length table.now) deep s.now at }
-    ensures { (result.holds ≡ read (in_table table.now) (formula_at deep s.now at)) × (result.next ≡ formula_end deep s.now at) }
-{
-    let x = promise::word(s, at);
-    let p = at + 1;
-    let less = deep - 1;
-    if x < 256 {
-        return Truth {
-            holds: is_there(table, x),
-            next: p,
-        };
+impl Valuation for Present<'_> {
+    type Value = bool;
+
+    ghost reading = { λ v. in_table v.table.now };
+
+    ghost atoms = { λ v. length v.table.now };
+
+    fn truth(&self) -> bool {
+        true
     }
-    if x == 256 {
-        return Truth {
-            holds: true,
-            next: p,
-        };
+
+    fn atom(&self, x: usize) -> bool {
+        is_there(self.table, x)
     }
-    let f = truth_at(s, p, less, table);
-    let v = f.holds;
-    let h = f.next;
-    if x == 257 {
-        return Truth { holds: !v, next: h };
+
+    fn negated(&self, a: bool) -> bool {
+        !a
     }
-    let g = truth_at(s, h, less, table);
-    let u = g.holds;
-    let z = g.next;
-    Truth {
-        holds: joined(x, v, u),
-        next: z,
+
+    fn both(&self, a: bool, b: bool) -> bool {
+        a && b
+    }
+
+    fn either(&self, a: bool, b: bool) -> bool {
+        a || b
     }
 }
 
@@ -313,166 +247,153 @@ pub fn answer_in(d: &[u16], p: usize, table: &[u8]) -> bool
     ensures { result ≡ read_in d.now p table.now }
 {
     let e = promise::entry_at(d, p);
-    let f = e.formula;
-    let a = promise::word(d, f);
+    let a = promise::word(d, e.formula);
     if a < 256 {
         return is_there(table, a);
     }
-    let v = truth_at(d, f, 16, table);
-    v.holds
+    let (holds, _) = promise::value_at(&Present { table }, d, e.formula, 16);
+    holds
 }
 
-// The answer of the entry at p in a policy.
-pub fn answer_at(d: &[u16], o: Layout, creds: &[usize], w: &[u16], which: Which, p: usize) -> bool
-    requires { Ready d.now o creds.now w.now which × EntryFits o.atoms o.ncreds d.now p }
-    ensures { result ≡ answer_of d.now o w.now which p }
-{
-    let e = promise::entry_at(d, p);
-    let n = o.atoms;
-    let table = first_rounds(d, o, creds, w, which, e);
-    answer_in(d, p, &table[..n])
-}
+// ---- the policy
 
-// Whether e has the credentials of the entry at `last`; 0 is no entry.
-fn alike(d: &[u16], last: usize, e: EntryAt) -> bool
-    requires { ((last ≡ 0 → ⊥) → (entry_at d.now last).next ≤ length d.now) × (e.creds + e.count ≤ length d.now) }
-    ensures { result ≡ (not (last is 0) and same (entry_of d.now (entry_at d.now last)).creds (entry_of d.now e).creds) }
-{
-    if last == 0 {
-        return false;
+impl<'a> PolicyAt<'a> {
+    // Fires the clauses of the policy.
+    fn fire_policy(&self, round: u8, table: &mut [u8])
+        requires { length table.old ≡ self.now.layout.atoms }
+        ensures { table.new ≡ fire_all round (policy_in self.now) table.old }
+    {
+        let c = self.layout.clauses;
+        let k = self.layout.nclauses;
+        match self.which {
+            Which::Own => {
+                fire_each(&Marked { every: true }, self.words, c, k, round, table);
+            }
+            Which::Tried(j) => {
+                fire_each(&Clauses, self.witness, 2, j, round, table);
+                fire_each(&Marked { every: false }, self.words, c, k, round, table);
+            }
+        }
     }
-    let f = promise::entry_at(d, last);
-    promise::same_words(d, f.creds, f.count, d, e.creds, e.count)
-}
 
-// The table of what holds at the entry at p. `held` is that of the entry at `last`, and serves again if that has the same credentials.
-pub fn known(
-    d: &[u16],
-    o: Layout,
-    creds: &[usize],
-    w: &[u16],
-    which: Which,
-    last: usize,
-    held: [u8; 64],
-    p: usize,
-) -> [u8; 64]
-    requires { Ready d.now o creds.now w.now which × Held d.now o w.now which last held × EntryFits o.atoms o.ncreds d.now p }
-    ensures { result ≡ table_of d.now o w.now which (entry_at d.now p) }
-{
-    let e = promise::entry_at(d, p);
-    if alike(d, last, e) {
-        return held;
+    // One round over the policy joined with the entry's credentials. Answers whether it added an atom.
+    fn one_round(&self, e: EntryAt, round: u8, table: &mut [u8]) -> bool
+        requires { Asked self.now e × (length table.old ≡ self.now.layout.atoms) }
+        ensures { (table.new ≡ fire_all round (joined_in self.now e) table.old) × (result ≡ any (λ x. x is round) table.new) }
+    {
+        self.fire_policy(round, table);
+        fire_each(
+            &Named { creds: self.creds },
+            self.words,
+            e.creds,
+            e.count,
+            round,
+            table,
+        );
+        adds(table, round)
     }
-    first_rounds(d, o, creds, w, which, e)
-}
 
-// Writes the numbers to the start of the table, which is as long or longer; the words beyond stay.
-pub fn widen(src: &[u8], dst: &mut [u16])
-    requires { length src.now ≤ length dst.old }
-    ensures { dst.new ≡ src.now ++ drop (length src.now) dst.old }
-{
-    let mut i = 0;
-    while i < src.len() {
-        dst[i] = src[i] as u16;
-        i += 1;
+    // The rounds, on a table with no atoms: each atom gets the number of the round that first adds it. It stops at a round that adds none.
+    fn run(&self, e: EntryAt, table: &mut [u8])
+        requires { Asked self.now e × (table.old ≡ replicate self.now.layout.atoms 0) }
+        ensures { table.new ≡ rows (first_round (joined_in self.now e)) self.now.layout.atoms }
+    {
+        prove!(table.len() == self.layout.atoms);
+        for done in 0..64 {
+            if !self.one_round(e, done + 1, table) {
+                return;
+            }
+        }
     }
-}
 
-// For each atom the number of the round that first adds it in a policy with the credentials of the entry at p, 0 if none does,
-// from the table's start; the words beyond stay.
-pub fn rounds_at(
-    d: &[u16],
-    o: Layout,
-    creds: &[usize],
-    w: &[u16],
-    which: Which,
-    p: usize,
-    table: &mut [u16],
-)
-    requires { Ready d.now o creds.now w.now which × EntryFits o.atoms o.ncreds d.now p × (o.atoms ≤ length table.old) }
-    ensures { table.new ≡ filled (round_of d.now o w.now which p) o.atoms table.old }
-{
-    let e = promise::entry_at(d, p);
-    let n = o.atoms;
-    let found = first_rounds(d, o, creds, w, which, e);
-    widen(&found[..n], table);
-}
-
-// An answer as a word.
-pub fn word_of(a: bool) -> u16
-    ensures { result ≡ bit a }
-{
-    if a { 1 } else { 0 }
-}
-
-// Where the last of the k things of the table begins; 0 if there is none.
-pub fn last_of(table: &[usize], k: usize) -> usize
-    requires { k ≤ length table.now }
-    ensures { result ≡ last_of table.now k }
-{
-    if k == 0 {
-        return 0;
+    // For each atom the number of the round that first adds it, 0 if none does; and 0 beyond the atoms.
+    fn first_rounds(&self, e: EntryAt) -> [u8; 64]
+        requires { Asked self.now e }
+        ensures { result ≡ table_in self.now e }
+    {
+        let n = self.layout.atoms;
+        let mut table = none();
+        self.run(e, &mut table[..n]);
+        table
     }
-    table[k - 1]
-}
 
-// Writes every probe's answer in the dossier's own policy to the table. Answers the table of what holds at the last probe.
-fn answer_probes(
-    d: &[u16],
-    o: Layout,
-    creds: &[usize],
-    probes: &[usize],
-    w: &[u16],
-    table: &mut [u16],
-) -> [u8; 64]
-    requires { Ready d.now o creds.now w.now Own × Starts ((entry o.atoms o.ncreds).next d.now) o.probes o.nprobes probes.now × (o.nprobes ≤ length table.old) }
-    ensures { (table.new ≡ filled (answer_word d.now o) o.nprobes table.old) × Held d.now o w.now Own (last_of probes.now o.nprobes) result }
-{
-    let n = o.nprobes;
-    let m = o.atoms;
-    let mut held = none();
-    let mut i = 0;
-    while i < n {
-        let p = probes[i];
-        let t = known(d, o, creds, w, Which::Own, last_of(probes, i), held, p);
-        table[i] = word_of(answer_in(d, p, &t[..m]));
-        held = t;
-        i += 1;
+    // The answer of the entry at p.
+    pub fn answer_at(&self, p: usize) -> bool
+        requires { EntryFits self.now.layout.atoms self.now.layout.ncreds self.now.words p }
+        ensures { result ≡ answer_in_policy self.now p }
+    {
+        let n = self.layout.atoms;
+        let table = self.first_rounds(promise::entry_at(self.words, p));
+        answer_in(self.words, p, &table[..n])
     }
-    held
-}
 
-// Every probe's answer in the dossier's own policy, 0 or 1, from the table's start; the words beyond stay.
-pub fn answers(
-    d: &[u16],
-    o: Layout,
-    creds: &[usize],
-    probes: &[usize],
-    w: &[u16],
-    table: &mut [u16],
-)
-    requires { Ready d.now o creds.now w.now Own × Starts ((entry o.atoms o.ncreds).next d.now) o.probes o.nprobes probes.now × (o.nprobes ≤ length table.old) }
-    ensures { table.new ≡ filled (answer_word d.now o) o.nprobes table.old }
-{
-    answer_probes(d, o, creds, probes, w, table);
-}
+    // Whether e has the credentials of the entry at `last`.
+    fn alike(&self, last: usize, e: EntryAt) -> bool
+        requires { ((entry_at self.now.words last).next ≤ length self.now.words) × (e.creds + e.count ≤ length self.now.words) }
+        ensures { result ≡ same (entry_of self.now.words (entry_at self.now.words last)).creds (entry_of self.now.words e).creds }
+    {
+        let f = promise::entry_at(self.words, last);
+        promise::same_words(self.words, f.creds, f.count, self.words, e.creds, e.count)
+    }
 
-// The same; and tells the secret's answer in the dossier's own policy.
-pub fn own_answers(
-    d: &[u16],
-    o: Layout,
-    creds: &[usize],
-    probes: &[usize],
-    w: &[u16],
-    table: &mut [u16],
-) -> bool
-    requires { Ready d.now o creds.now w.now Own × Starts ((entry o.atoms o.ncreds).next d.now) o.probes o.nprobes probes.now × (o.nprobes ≤ length table.old) }
-    ensures { (table.new ≡ filled (answer_word d.now o) o.nprobes table.old) × (result ≡ answer_of d.now o w.now Own o.secret) }
-{
-    let held = answer_probes(d, o, creds, probes, w, table);
-    let last = last_of(probes, o.nprobes);
-    let p = o.secret;
-    let n = o.atoms;
-    let t = known(d, o, creds, w, Which::Own, last, held, p);
-    answer_in(d, p, &t[..n])
+    // What holds at the entry at p. What is kept of another entry serves again if that has the same credentials.
+    pub fn known(&self, kept: Option<Kept>, p: usize) -> Kept
+        requires { Keeps self.now kept × EntryFits self.now.layout.atoms self.now.layout.ncreds self.now.words p }
+        ensures { result ≡ kept_at self.now p }
+    {
+        let e = promise::entry_at(self.words, p);
+        if let Some(last) = kept {
+            if self.alike(last.entry, e) {
+                let table = last.table;
+                return Kept { entry: p, table };
+            }
+        }
+        let table = self.first_rounds(e);
+        Kept { entry: p, table }
+    }
+
+    // For each atom the number of the round that first adds it with the credentials of the entry at p, 0 if none does,
+    // from the table's start; the words beyond stay.
+    pub fn rounds_at(&self, p: usize, table: &mut [u16])
+        requires { EntryFits self.now.layout.atoms self.now.layout.ncreds self.now.words p × (self.now.layout.atoms ≤ length table.old) }
+        ensures { table.new ≡ filled (round_in self.now p) self.now.layout.atoms table.old }
+    {
+        let n = self.layout.atoms;
+        let found = self.first_rounds(promise::entry_at(self.words, p));
+        widen(&found[..n], table);
+    }
+
+    // Writes every probe's answer in the dossier's own policy to the table. Answers what holds at the last probe, if there is one.
+    fn answer_probes(&self, probes: &[usize], table: &mut [u16]) -> Option<Kept>
+        requires { (self.now.which ≡ Own) × ProbeStarts self.now probes.now × (self.now.layout.nprobes ≤ length table.old) }
+        ensures { (table.new ≡ filled (answer_word self.now.words self.now.layout) self.now.layout.nprobes table.old) × Keeps self.now result }
+    {
+        let n = self.layout.atoms;
+        let mut kept = None;
+        for i in 0..self.layout.nprobes {
+            let known = self.known(kept, probes[i]);
+            table[i] = u16::from(answer_in(self.words, probes[i], &known.table[..n]));
+            kept = Some(known);
+        }
+        kept
+    }
+
+    // Every probe's answer in the dossier's own policy, 0 or 1, from the table's start; the words beyond stay.
+    pub fn answers(&self, probes: &[usize], table: &mut [u16])
+        requires { (self.now.which ≡ Own) × ProbeStarts self.now probes.now × (self.now.layout.nprobes ≤ length table.old) }
+        ensures { table.new ≡ filled (answer_word self.now.words self.now.layout) self.now.layout.nprobes table.old }
+    {
+        self.answer_probes(probes, table);
+    }
+
+    // The same; and tells the secret's answer in the dossier's own policy.
+    pub fn own_answers(&self, probes: &[usize], table: &mut [u16]) -> bool
+        requires { (self.now.which ≡ Own) × ProbeStarts self.now probes.now × (self.now.layout.nprobes ≤ length table.old) }
+        ensures { (table.new ≡ filled (answer_word self.now.words self.now.layout) self.now.layout.nprobes table.old) × (result ≡ answer_in_policy self.now self.now.layout.secret) }
+    {
+        let kept = self.answer_probes(probes, table);
+        let n = self.layout.atoms;
+        let known = self.known(kept, self.layout.secret);
+        answer_in(self.words, self.layout.secret, &known.table[..n])
+    }
 }

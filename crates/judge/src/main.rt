@@ -1,63 +1,23 @@
 // The program judge: reads the papers from standard input and prints the line of the reply.
 #![tactic(auto)]
 
-ghost use Rattle.std.specs.Prelude.{◌≡◌, length, ◌+◌, ◌≤◌};
-
 use std::io;
-use std::io::{Read, Write};
+use std::io::Write;
 
-// Room for the input, and for one byte more, so that too long an input is seen.
-fn input() -> [u8; 65537]
-    ensures { 65537 ≡ length result }
-{
-    [0; 65537]
-}
+// Room for the longest input, and for one byte more, so that too long an input is seen.
+const INPUT: usize = 65537;
 
 // Room for the input's words.
-fn room() -> [u16; 32768]
-    ensures { 32768 ≡ length result }
-{
-    [0; 32768]
-}
+const WORDS: usize = 32768;
 
 // Room for the line.
-fn blank() -> [u8; 96]
-    ensures { 96 ≡ length result }
-{
-    [0; 96]
-}
-
-// One read of the input to the room from place `done` on. Answers how many bytes it got; 0 where the input has ended or cannot be read.
-fn read_more<R: Read>(input: &mut R, room: &mut [u8], done: usize) -> usize
-    requires { done ≤ length room.old }
-    ensures { done + result ≤ length room.new }
-{
-    match input.read(&mut room[done..]) {
-        Ok(got) => got,
-        Err(_) => 0,
-    }
-}
-
-// Reads the input until it ends or the room is full. Answers how many bytes it got.
-fn read_all<R: Read>(input: &mut R, room: &mut [u8]) -> usize
-    ensures { result ≤ length room.new }
-{
-    let mut done = 0;
-    while done < room.len() {
-        let more = read_more(input, room, done);
-        if more == 0 {
-            return done;
-        }
-        done += more;
-    }
-    done
-}
+const LINE: usize = 96;
 
 fn main(rt: HostRuntime) -> io::Result<()> {
-    let mut bytes = input();
-    let n = read_all(&mut rt.stdin(), &mut bytes);
-    let mut table = room();
-    let mut out = blank();
+    let mut bytes = [0; INPUT];
+    let n = text::read(&mut rt.stdin(), &mut bytes);
+    let mut table = [0; WORDS];
+    let mut out = [0; LINE];
     let k = printed::stdin_line(&bytes[..n], &mut table, &mut out);
     rt.stdout().write_all(&out[..k])
 }

@@ -13,7 +13,6 @@ use Rattle.promise.specs.Code.{code_formula}
 use Rattle.promise.specs.Place.{place, rows, filled}
 use Rattle.promise.specs.Layout.{layout_of, proposal_of}
 use Rattle.promise.specs.Line.{data_count, rule_of}
-use Rattle.promise.specs.Thing.{next_of}
 use Rattle.dossier.specs.Read.{clause, marked, by_kind, operand, formula, entry, secret, ended, sections, dossier}
 use Rattle.certificate.specs.Read.{statement, literal, spoken, literals, line, witness_from, proof_from, proposal, certificate}
 use Rattle.verdict.specs.Told.{showing, reply_at, numbered, rounds_at}
@@ -33,7 +32,7 @@ Computes (answered d t reply after) = (answers_of d t ≡ reply) × (table_after
 
 -- all that reading and judging compute through
 unfoldable pub compute : Unit {0}
-unfolding out.moved out.after ranged next rising listed times section code_all meant.compute code_formula place rows filled layout_of proposal_of data_count rule_of next_of clause marked by_kind operand formula entry secret ended sections dossier statement literal spoken literals line witness_from proof_from proposal certificate showing reply_at judge_proposal judge_read judge_of first_of first_round or_zero about round_in numbered rounds_at rounds_proposal rounds_read rounds_after word_to count_of table_of answers_of table_after Computes
+unfolding out.moved out.after ranged next rising listed times section code_all meant.compute code_formula place rows filled layout_of proposal_of data_count rule_of clause marked by_kind operand formula entry secret ended sections dossier statement literal spoken literals line witness_from proof_from proposal certificate showing reply_at judge_proposal judge_read judge_of first_of first_round or_zero about round_in numbered rounds_at rounds_proposal rounds_read rounds_after word_to count_of table_of answers_of table_after Computes
 compute = tt
 
 -- what holds of the first row and of each other holds of each

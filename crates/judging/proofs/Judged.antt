@@ -22,8 +22,6 @@ use Rattle.certificate.specs.Read.{certificate}
 use Rattle.reply.specs.Answer.{refused}
 use Rattle.reply.specs.declared.Paper.TheVariants as paper
 use Rattle.reply.specs.declared.Reply.{Reply}
-use Rattle.reply.specs.declared.Written.{Written}
-use Rattle.reply.specs.declared.Written.TheVariants.{Count, Refused}
 use Rattle.evaluation.specs.Which.{policy_at}
 use Rattle.evaluation.specs.Answer.{answer_of, answer_word}
 use Rattle.verdict.specs.Told.{reply_at, rounds_at, Says, size_of}
@@ -32,6 +30,7 @@ use Rattle.judging.specs.Rounds.{rounds_proposal, rounds_read, rounds_after}
 use Rattle.judging.specs.Table.{word_to}
 use Rattle.judging.specs.Answers.{count_of, table_of, answers_of, table_after}
 use Rattle.judging.proofs.Sound.{sound_paper, offered_paper, atoms_are, creds_are, probes_are}
+use Rattle.std.specs.Prelude.{Result, Ok, Err}
 
 -- ---- judge
 
@@ -91,12 +90,12 @@ module _ (d c t : List ℕ) (o : Layout) (s : Sound d o) where
 -- ---- answers
 
 -- r is what the answers entry answers, and u what the table then holds, which held t
-abbrev pub Kept : List ℕ → List ℕ → Written → List ℕ → Type 0
+abbrev pub Kept : List ℕ → List ℕ → Result ℕ Reply → List ℕ → Type 0
 Kept d t r u = (r ≡ answers_of d t) × (u ≡ table_after d t)
 
-pub answers_refused : (d t : List ℕ) {e p w : ℕ} {r : Reply} → dossier d ≡ bad e p w → r ≡ refused e paper.Dossier p w → Kept d t (Refused r) t
+pub answers_refused : (d t : List ℕ) {e p w : ℕ} {r : Reply} → dossier d ≡ bad e p w → r ≡ refused e paper.Dossier p w → Kept d t (Err r) t
 unfolding answers_of table_after count_of table_of
-answers_refused d t h g = (ap Refused g ∙ ap (λ (x : Out Dossier). count_of x t) (sym h), ap (λ (x : Out Dossier). table_of x t) (sym h))
+answers_refused d t h g = (ap Err g ∙ ap (λ (x : Out Dossier). count_of x t) (sym h), ap (λ (x : Out Dossier). table_of x t) (sym h))
 
 module _ (d t : List ℕ) (o : Layout) (s : Sound d o) where
   words_are : (j : ℕ) → j < o.nprobes → answer_word d o j ≡ word_to s.paper j
@@ -105,19 +104,19 @@ module _ (d t : List ℕ) (o : Layout) (s : Sound d o) where
       ap (λ (x : Option Entry). bit (named x (λ e. answer (dossier_at d o) (policy (dossier_at d o)) e))) (sym (many_at (entry o.atoms o.ncreds) d o.probes o.nprobes j h))
       ∙ ap (λ (y : Dossier). bit (named (at y.probes j) (λ e. answer y (policy y) e))) (sound_paper d o s)
 
-  pub answers_short : length t < o.nprobes → {r : Reply} → r ≡ refused 18 paper.Dossier 0 0 → Kept d t (Refused r) t
+  pub answers_short : length t < o.nprobes → {r : Reply} → r ≡ refused 18 paper.Dossier 0 0 → Kept d t (Err r) t
   unfolding answers_of table_after count_of table_of choose
   answers_short h g =
       let z : length t < length s.paper.probes = omega (arith, probes_are d o s) in
       let q = lt-leb _ _ z in
-      (ap Refused g ∙ sym (ap (λ (x : Out Dossier). count_of x t) s.is_read ∙ (rw q refl)), sym (ap (λ (x : Out Dossier). table_of x t) s.is_read ∙ (rw q refl)))
+      (ap Err g ∙ sym (ap (λ (x : Out Dossier). count_of x t) s.is_read ∙ (rw q refl)), sym (ap (λ (x : Out Dossier). table_of x t) s.is_read ∙ (rw q refl)))
 
-  pub answers_given : {u : List ℕ} → o.nprobes ≤ length t → u ≡ filled (answer_word d o) o.nprobes t → Kept d t (Count o.nprobes) u
+  pub answers_given : {u : List ℕ} → o.nprobes ≤ length t → u ≡ filled (answer_word d o) o.nprobes t → Kept d t (Ok o.nprobes) u
   unfolding answers_of table_after count_of table_of choose filled
   answers_given {u} h e =
       let z : length s.paper.probes ≤ length t = omega (arith, probes_are d o s) in
       let q = le-leb _ _ z in (
-        ap Count (probes_are d o s) ∙ sym (ap (λ (x : Out Dossier). count_of x t) s.is_read ∙ (rw q refl)),
+        ap Ok (probes_are d o s) ∙ sym (ap (λ (x : Out Dossier). count_of x t) s.is_read ∙ (rw q refl)),
         e ∙ ap (λ (l : List ℕ). l ++ drop o.nprobes t) (rows_same _ _ o.nprobes words_are) ∙ ap (λ (n : ℕ). rows (word_to s.paper) n ++ drop n t) (probes_are d o s)
             ∙ sym (ap (λ (x : Out Dossier). table_of x t) s.is_read ∙ (rw q refl)),
       )

@@ -1,3 +1,4 @@
+pub mod Numbers
 pub mod Sound
 pub mod Judged
 pub mod Cases

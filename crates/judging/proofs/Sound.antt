@@ -1,11 +1,13 @@
 -- From a reader's answer back to what was read, and from what was read to the promise.
 use Prim.Native.Nat.{ℕ}
-use mathlib.Core.Path.{◌≡◌, refl, sym, ap, ◌∙◌, subst}
+use mathlib.Core.Path.{◌≡◌, sym, ap, ◌∙◌, subst}
 use mathlib.Core.List.{List}
-use native.Mathlib.Omega.{arith}
 use lib.ListN.{length}
-use Rattle.words.specs.Out.{Out, got, bad}
-use Rattle.meaning.specs.Papers.{Dossier, Certificate}
+use Rattle.std.specs.Prelude.{Result, Ok, Err}
+use Rattle.reply.specs.declared.Refusal.{Refusal}
+use Rattle.reply.specs.Numbers.{number}
+use Rattle.words.specs.Out.{bad}
+use Rattle.words.proofs.Steps.{failed, passed}
 use Rattle.promise.specs.Code.{code_dossier, code_certificate}
 use Rattle.promise.specs.Form.{DossierForm, CertificateForm}
 use Rattle.promise.specs.Layout.{layout_of, dossier_at, Laid, proposal_of, certificate_at, Proposed}
@@ -14,33 +16,20 @@ use Rattle.promise.specs.declared.Proposal.{Proposal}
 use Rattle.promise.proofs.Decoded.{dossier_decoded, certificate_decoded}
 use Rattle.dossier.specs.Read.{dossier}
 use Rattle.dossier.specs.Found as dossiers
-use Rattle.dossier.specs.declared.Form as dossier_form
-use Rattle.dossier.specs.declared.Form.TheVariants as dossier_is
-use Rattle.dossier.proofs.Promise.{dossier_sound}
+use Rattle.dossier.proofs.Promise.{dossier_sound, dossier_shows}
 use Rattle.certificate.specs.Read.{certificate}
 use Rattle.certificate.specs.Found as certificates
-use Rattle.certificate.specs.declared.Form as certificate_form
-use Rattle.certificate.specs.declared.Form.TheVariants as certificate_is
-use Rattle.certificate.proofs.Promise.{certificate_sound}
+use Rattle.certificate.proofs.Promise.{certificate_sound, certificate_shows}
 use Rattle.judging.specs.Judge.{Sound, Offered}
+use Rattle.judging.proofs.Numbers.{told_bad, row_few, certificate_few}
 
 -- ---- the dossier
 
-by_dossier : (d : List ℕ) {o : Layout} (out : Out Dossier) → dossier d ≡ out → dossiers.as_form out ≡ dossier_is.Sound o → Sound d o
-unfolding dossiers.as_form
-by_dossier d {o} (got D q) e h = record { paper = D; end = q; is_read = e; layout = let z : layout_of D ≡ o = cc in sym z }
-by_dossier d {o} (bad e p w) g h = absurd (let z : ◌≡◌ {A = ℕ} 0 1 = cc in omega arith)
+pub dossier_sound_lem : (d : List ℕ) {r : Result Layout Refusal} {o : Layout} → r ≡ dossiers.as_form (dossier d) → r ≡ Ok o → Sound d o
+dossier_sound_lem d t g = let b = passed _ (dossier d) t g in record { paper = b.v; end = b.p; is_read = b.is; layout = b.told }
 
-pub dossier_sound_lem : (d : List ℕ) {o : Layout} {f : dossier_form.Form} → f ≡ dossiers.as_form (dossier d) → f ≡ dossier_is.Sound o → Sound d o
-dossier_sound_lem d e h = by_dossier d (dossier d) refl (sym e ∙ h)
-
-dossier_not : (out : Out Dossier) {e p w : ℕ} → dossiers.as_form out ≡ dossier_is.Refused e p w → out ≡ bad e p w
-unfolding dossiers.as_form
-dossier_not (got D q) h = absurd (let z : ◌≡◌ {A = ℕ} 0 1 = cc in omega arith)
-dossier_not (bad a b c) h = cc
-
-pub dossier_refused : (d : List ℕ) {e p w : ℕ} {f : dossier_form.Form} → f ≡ dossiers.as_form (dossier d) → f ≡ dossier_is.Refused e p w → dossier d ≡ bad e p w
-dossier_refused d g h = dossier_not (dossier d) (sym g ∙ h)
+pub dossier_refused : (d : List ℕ) {r : Result Layout Refusal} {x : Refusal} → r ≡ dossiers.as_form (dossier d) → r ≡ Err x → dossier d ≡ bad (number x.fault) x.place x.count
+dossier_refused d t g = let b = failed _ (dossier d) t g in let (us, row, size) = dossier_shows d b.e b.p b.w b.is in told_bad b (row_few row)
 
 module _ (d : List ℕ) (o : Layout) (s : Sound d o) where
   coded : (d ≡ code_dossier s.paper) × DossierForm s.paper
@@ -71,21 +60,11 @@ module _ (d : List ℕ) (o : Layout) (s : Sound d o) where
 -- ---- the certificate
 
 module _ (n m : ℕ) (c : List ℕ) where
-  by_certificate : {x : Proposal} (out : Out Certificate) → certificate n m c ≡ out → certificates.as_form out ≡ certificate_is.Sound x → Offered n m c x
-  unfolding certificates.as_form
-  by_certificate {x} (got C q) e h = record { paper = C; end = q; is_read = e; proposal = let z : proposal_of C ≡ x = cc in sym z }
-  by_certificate {x} (bad e p w) g h = absurd (let z : ◌≡◌ {A = ℕ} 0 1 = cc in omega arith)
+  pub certificate_sound_lem : {r : Result Proposal Refusal} {x : Proposal} → r ≡ certificates.as_form (certificate n m c) → r ≡ Ok x → Offered n m c x
+  certificate_sound_lem t g = let b = passed _ (certificate n m c) t g in record { paper = b.v; end = b.p; is_read = b.is; proposal = b.told }
 
-  pub certificate_sound_lem : {x : Proposal} {f : certificate_form.Form} → f ≡ certificates.as_form (certificate n m c) → f ≡ certificate_is.Sound x → Offered n m c x
-  certificate_sound_lem e h = by_certificate (certificate n m c) refl (sym e ∙ h)
-
-  certificate_not : (out : Out Certificate) {e p w : ℕ} → certificates.as_form out ≡ certificate_is.Refused e p w → out ≡ bad e p w
-  unfolding certificates.as_form
-  certificate_not (got C q) h = absurd (let z : ◌≡◌ {A = ℕ} 0 1 = cc in omega arith)
-  certificate_not (bad a b z) h = cc
-
-  pub certificate_refused : {e p w : ℕ} {f : certificate_form.Form} → f ≡ certificates.as_form (certificate n m c) → f ≡ certificate_is.Refused e p w → certificate n m c ≡ bad e p w
-  certificate_refused g h = certificate_not (certificate n m c) (sym g ∙ h)
+  pub certificate_refused : {r : Result Proposal Refusal} {x : Refusal} → r ≡ certificates.as_form (certificate n m c) → r ≡ Err x → certificate n m c ≡ bad (number x.fault) x.place x.count
+  certificate_refused t g = let b = failed _ (certificate n m c) t g in let (us, row, size) = certificate_shows n m c b.e b.p b.w b.is in told_bad b (certificate_few row)
 
   module _ (x : Proposal) (s : Offered n m c x) where
     written : (c ≡ code_certificate s.paper) × CertificateForm n m s.paper

@@ -23,7 +23,6 @@ use Rattle.promise.specs.Layout.{layout_of, proposal_of}
 use Rattle.promise.specs.Place.{Kind}
 use Rattle.promise.specs.Line.{line}
 use Rattle.promise.proofs.Table.{Shows, row_shows, certificate_shows_lem}
-use Rattle.promise.specs.Thing.{next_of}
 use Rattle.dossier.specs.Read.{dossier}
 use Rattle.dossier.proofs.Promise.{dossier_sound, dossier_accepted, dossier_shows, dossier_rows}
 use Rattle.certificate.specs.Read.{certificate}
@@ -34,8 +33,6 @@ use Rattle.reply.specs.Shown.{shown_of, shown_by}
 use Rattle.reply.specs.declared.Paper.{Paper}
 use Rattle.reply.specs.declared.Paper.TheVariants.{Dossier, Certificate}
 use Rattle.reply.specs.declared.Reply.{Reply}
-use Rattle.reply.specs.declared.Written.{Written}
-use Rattle.reply.specs.declared.Written.TheVariants.{Refused}
 use Rattle.reply.proofs.Part.{fits}
 use Rattle.verdict.specs.Told.{showing, reply_at, numbered, rounds_at, size_of}
 use Rattle.judging.specs.Judge.{judge_of}
@@ -46,6 +43,7 @@ use Rattle.judging.specs.Entries.{Judging, Answering}
 use Rattle.judging.specs.Demands.{Tabled, AnswersTabled, OneRow, TablesKept, Numbers}
 use Rattle.judging.proofs.Judged.{Replied, Kept, ByProposal, judge_refused, by_dossier, proposal_refused, proposal_short, proposal_meant, answers_refused}
 use Rattle.judging.proofs.Shows.{Stands, entries, probe_stands, secret_stands, line_stands}
+use Rattle.std.specs.Prelude.{Result, Err}
 
 -- ---- a table of rows, each of which says what is answered, what is shown for it and what the lent table then holds, where all rows that apply give the same answer and table
 
@@ -124,7 +122,7 @@ module _ {d c : List ℕ} {D : papers.Dossier} {C : papers.Certificate} (b : Bot
 
 module _ (d c t : List ℕ) where
   row_gives : (r : Reply) (us u : List ℕ) → Row d c t r us u → Gives d c t r us u
-  unfolding shown_of reply_at showing next_of layout_of proposal_of rounds_at numbered about When
+  unfolding shown_of reply_at showing layout_of proposal_of rounds_at numbered about When
   row_gives r us u (Row.in_dossier s) = (judge_refused d c t (dossier_rows d _ _ us s) refl, shown_part (row_shows s))
   row_gives r us u (Row.in_certificate D e f s) = (
     by_dossier d c t D _ (sound_read d D e f) (subst (λ (x : Out papers.Certificate). ByProposal d D c t x r t) (sym (certificate_rows _ _ c _ _ us s)) (proposal_refused d D c t refl)),
@@ -210,18 +208,18 @@ module _ (d c t : List ℕ) where
 
 module _ (d t : List ℕ) where
   -- with the dossier D read
-  kept_read : (D : papers.Dossier) → d ≡ code_dossier D → DossierForm D → {r : Written} {u : List ℕ} → (r ≡ count_of (got D (length (code_dossier D))) t) × (u ≡ table_of (got D (length (code_dossier D))) t) → Kept d t r u
+  kept_read : (D : papers.Dossier) → d ≡ code_dossier D → DossierForm D → {r : Result ℕ Reply} {u : List ℕ} → (r ≡ count_of (got D (length (code_dossier D))) t) × (u ≡ table_of (got D (length (code_dossier D))) t) → Kept d t r u
   unfolding answers_of table_after
   kept_read D e f h = rw (sound_read d D e f) h
 
-  answers_give : (c : List ℕ) (r : Written) (us u : List ℕ) → AnswersRow d t r us u → Kept d t r u × (us ≡ shown_by d c r)
+  answers_give : (c : List ℕ) (r : Result ℕ Reply) (us u : List ℕ) → AnswersRow d t r us u → Kept d t r u × (us ≡ shown_by d c r)
   unfolding count_of table_of choose shown_of
   answers_give c r us u (AnswersRow.form s) = (answers_refused d t (dossier_rows d _ _ us s) refl, shown_part (row_shows s))
   answers_give c r us u (AnswersRow.short D e f l) = (kept_read D e f (rw (lt-leb _ _ l) (refl, refl)), sym (fits d 0 0 (omega arith)))
   answers_give c r us u (AnswersRow.count D e f l) = (kept_read D e f (rw (le-leb _ _ l) (refl, refl)), refl)
 
   abbrev AnswersApplies : Type 0
-  AnswersApplies = (r : Written) × ((us : List ℕ) × ((u : List ℕ) × AnswersRow d t r us u))
+  AnswersApplies = (r : Result ℕ Reply) × ((us : List ℕ) × ((u : List ℕ) × AnswersRow d t r us u))
 
   by_room : (D : papers.Dossier) → d ≡ code_dossier D → DossierForm D → (b : Bool) → leb (length D.probes) (length t) ≡ b → AnswersApplies
   by_room D e f true q = (_, (_, (_, AnswersRow.count D e f (leb-true _ _ q))))
@@ -232,25 +230,25 @@ module _ (d t : List ℕ) where
   by_form (bad e p w) g = let (us, s, z) = dossier_shows d e p w g in (_, (us, (_, AnswersRow.form s)))
 
   -- what the code has found to be the entry's answer and table is what the row says
-  pub kept_row : (c : List ℕ) {r : Written} {u : List ℕ} → Kept d t r u → AnswersRow d t r (shown_by d c r) u
+  pub kept_row : (c : List ℕ) {r : Result ℕ Reply} {u : List ℕ} → Kept d t r u → AnswersRow d t r (shown_by d c r) u
   kept_row c = says_so (AnswersRow d t) (shown_by d c) _ _ (answers_give c) (by_form (dossier d) refl)
 
-  pub row_kept : {r : Written} {us u : List ℕ} → AnswersRow d t r us u → Kept d t r u
+  pub row_kept : {r : Result ℕ Reply} {us u : List ℕ} → AnswersRow d t r us u → Kept d t r u
   row_kept s = (answers_give [] _ _ _ s).0
 
-  answers_number : (r : Reply) (us u : List ℕ) → AnswersRow d t (Refused r) us u → (k : ℕ) → number_of r.verdict ≡ some k → (1 ≤ k) × (k ≤ 18)
-  answers_number r us u s = go (Refused r) us u s refl
+  answers_number : (r : Reply) (us u : List ℕ) → AnswersRow d t (Err r) us u → (k : ℕ) → number_of r.verdict ≡ some k → (1 ≤ k) × (k ≤ 18)
+  answers_number r us u s = go (Err r) us u s refl
     where
       -- the number of the refusal that the row has
-      told : {n p w : ℕ} → Refused (refused n Dossier p w) ≡ Refused r → {k : ℕ} → number_of r.verdict ≡ some k → n ≡ k
+      told : {n p w : ℕ} → ◌≡◌ {A = Result ℕ Reply} (Err (refused n Dossier p w)) (Err r) → {k : ℕ} → number_of r.verdict ≡ some k → n ≡ k
       told {n} {p} {w} e {k} h = let z : refused n Dossier p w ≡ r = cc in some-injective n k (ap (λ (x : Reply). number_of x.verdict) z ∙ h)
 
-      go : (q : Written) (us u : List ℕ) → AnswersRow d t q us u → q ≡ Refused r → (k : ℕ) → number_of r.verdict ≡ some k → (1 ≤ k) × (k ≤ 18)
+      go : (q : Result ℕ Reply) (us u : List ℕ) → AnswersRow d t q us u → q ≡ Err r → (k : ℕ) → number_of r.verdict ≡ some k → (1 ≤ k) × (k ≤ 18)
       go q us u (AnswersRow.form f) e k h = let n = row_shows f in let z = told e h in (omega (arith, n.least), omega (arith, n.most))
       go q us u (AnswersRow.short D w f l) e k h = let z = told e h in (omega arith, omega arith)
       go q us u (AnswersRow.count D w f l) e k h = absurd (let z : ◌≡◌ {A = ℕ} 0 1 = cc in omega arith)
 
-  answers_leave : (q : Written) (us u : List ℕ) → AnswersRow d t q us u → {r : Reply} → q ≡ Refused r → u ≡ t
+  answers_leave : (q : Result ℕ Reply) (us u : List ℕ) → AnswersRow d t q us u → {r : Reply} → q ≡ Err r → u ≡ t
   answers_leave q us u (AnswersRow.form f) e = refl
   answers_leave q us u (AnswersRow.short D w f l) e = refl
   answers_leave q us u (AnswersRow.count D w f l) e = absurd (let z : ◌≡◌ {A = ℕ} 0 1 = cc in omega arith)
@@ -265,7 +263,7 @@ one_row =
     }
 
 pub tables_kept : TablesKept
-tables_kept = record { judge = row_leaves; answers = λ d t r us u s. answers_leave d t (Refused r) us u s refl }
+tables_kept = record { judge = row_leaves; answers = λ d t r us u s. answers_leave d t (Err r) us u s refl }
 
 pub numbers : Numbers
 unfolding InTable

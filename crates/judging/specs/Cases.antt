@@ -1,12 +1,10 @@
 -- The cases to be proved of 01's "Dossiers to try".
-use Rattle.std.specs.Prelude.{ℕ, ◌≡◌, List, [], ◌∷◌, ◌++◌, length, take, drop}
+use Rattle.std.specs.Prelude.{ℕ, ◌≡◌, List, [], ◌∷◌, ◌++◌, length, take, drop, Result, Ok}
 use Rattle.meaning.specs.Tests.{◌∈◌}
 use Rattle.reply.specs.Answer.{accepted, refused}
 use Rattle.reply.specs.declared.Paper.TheVariants.{Dossier, Certificate}
 use Rattle.reply.specs.declared.Reply.{Reply}
 use Rattle.reply.specs.declared.Verdict.TheVariants.{Opaque, Detectable}
-use Rattle.reply.specs.declared.Written.{Written}
-use Rattle.reply.specs.declared.Written.TheVariants.{Count}
 use Rattle.judging.specs.Entries.{Judging, Answering}
 
 -- "Hidden fact 0; visible 2 from 1; credential 1 from 0; probes: 2 with it, 2 without; secret 0."
@@ -37,7 +35,7 @@ P =
 -- A dossier with a certificate and the judge's reply, with any table of 64 words; or with a lent table, the reply to it, and what the table then holds.
 pub data Case : Type 0 where
   judged : List ℕ → List ℕ → Reply → Case
-  answered : List ℕ → List ℕ → Written → List ℕ → Case
+  answered : List ℕ → List ℕ → Result ℕ Reply → List ℕ → Case
 
 -- f and g meet a case
 unfoldable pub Meets : Judging → Answering → Case → Type 0
@@ -47,7 +45,7 @@ Meets f g (answered d t reply after) = ((g d t).reply ≡ reply) × ((g d t).tab
 -- (a) "T1's answers are 1, 0, the count 2": the lent table has a word more than T1 has probes. 01 names no certificate for (i) "T1 without its last word" and (j) "T1 with one word
 -- more": P.
 abbrev pub case_a : Case
-case_a = answered T1 (7 ∷ 7 ∷ 7 ∷ []) (Count 2) (1 ∷ 0 ∷ 7 ∷ [])
+case_a = answered T1 (7 ∷ 7 ∷ 7 ∷ []) (Ok 2) (1 ∷ 0 ∷ 7 ∷ [])
 
 abbrev pub case_b : Case
 case_b = judged T1 P (accepted Detectable)

@@ -1,6 +1,6 @@
 -- The customer's three demands, over words, of any two functions that might be the entries. That what keeps to the table meets them is `TableEnough`; that what the contracts allow
 -- keeps to the table, slack's `Promised`.
-use Rattle.std.specs.Prelude.{◌≡◌, List, [], ◌↔◌, ℕ, ◌≤◌, length}
+use Rattle.std.specs.Prelude.{◌≡◌, List, [], ◌↔◌, ℕ, ◌≤◌, length, Result, Err}
 use Rattle.std.proofs.Math.Option.{some}
 use Rattle.meaning.specs.Tests.{at}
 use Rattle.meaning.specs.Policy.{Policy}
@@ -17,8 +17,6 @@ use Rattle.reply.specs.Shown.{shown_of, shown_by}
 use Rattle.reply.specs.declared.Reply.{Reply}
 use Rattle.reply.specs.declared.Verdict as said
 use Rattle.reply.specs.declared.Verdict.TheVariants as verdict
-use Rattle.reply.specs.declared.Written.{Written}
-use Rattle.reply.specs.declared.Written.TheVariants.{Refused}
 use Rattle.judging.specs.Entries.{Judging, Answering}
 use Rattle.judging.specs.Table.{SoundFor, Long, Row, word_to, AnswersRow}
 
@@ -75,18 +73,18 @@ TableEnough = (f : Judging) → Tabled f → Demand2 f × Demand3 f
 pub record OneRow : Type 0 where
   pub some : (d c t : List ℕ) → (r : Reply) × ((us : List ℕ) × ((u : List ℕ) × Row d c t r us u))
   pub once : (d c t : List ℕ) (r q : Reply) (us vs u v : List ℕ) → Row d c t r us u → Row d c t q vs v → (r ≡ q) × (us ≡ vs) × (u ≡ v)
-  pub answers_some : (d t : List ℕ) → (r : Written) × ((us : List ℕ) × ((u : List ℕ) × AnswersRow d t r us u))
-  pub answers_once : (d t : List ℕ) (r q : Written) (us vs u v : List ℕ) → AnswersRow d t r us u → AnswersRow d t q vs v → (r ≡ q) × (us ≡ vs) × (u ≡ v)
+  pub answers_some : (d t : List ℕ) → (r : Result ℕ Reply) × ((us : List ℕ) × ((u : List ℕ) × AnswersRow d t r us u))
+  pub answers_once : (d t : List ℕ) (r q : Result ℕ Reply) (us vs u v : List ℕ) → AnswersRow d t r us u → AnswersRow d t q vs v → (r ≡ q) × (us ≡ vs) × (u ≡ v)
 
 -- "a refused answers table keeps its contents"; the judge's table keeps them but on 14 and 15: "Other replies leave it untouched" (A5)
 pub record TablesKept : Type 0 where
   pub judge : (d c t : List ℕ) (r : Reply) (us u : List ℕ) → Row d c t r us u → (number_of r.verdict ≡ some 14 → ⊥) → (number_of r.verdict ≡ some 15 → ⊥) → u ≡ t
-  pub answers : (d t : List ℕ) (r : Reply) (us u : List ℕ) → AnswersRow d t (Refused r) us u → u ≡ t
+  pub answers : (d t : List ℕ) (r : Reply) (us u : List ℕ) → AnswersRow d t (Err r) us u → u ≡ t
 
 -- A refusal's number is in the table; with 64 words lent it is not 18 (A5).
 pub record Numbers : Type 0 where
   pub judge : (d c t : List ℕ) (r : Reply) (us u : List ℕ) → Row d c t r us u → (k : ℕ) → number_of r.verdict ≡ some k → (1 ≤ k) × (k ≤ 18) × (64 ≤ length t → k ≤ 17)
-  pub answers : (d t : List ℕ) (r : Reply) (us u : List ℕ) → AnswersRow d t (Refused r) us u → (k : ℕ) → number_of r.verdict ≡ some k → (1 ≤ k) × (k ≤ 18)
+  pub answers : (d t : List ℕ) (r : Reply) (us u : List ℕ) → AnswersRow d t (Err r) us u → (k : ℕ) → number_of r.verdict ≡ some k → (1 ≤ k) × (k ≤ 18)
 
 -- "writes every probe's answer, 0 or 1": 1 exactly when the answer is yes, by the published meaning
 abbrev pub AnswersMeant : Type 0

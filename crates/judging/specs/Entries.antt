@@ -1,7 +1,6 @@
 -- Any two functions that might be the entries: what they give for words and a lent table.
-use Rattle.std.specs.Prelude.{ℕ, List}
+use Rattle.std.specs.Prelude.{ℕ, List, Result}
 use Rattle.reply.specs.declared.Reply.{Reply}
-use Rattle.reply.specs.declared.Written.{Written}
 
 -- the reply, and what the lent table then holds
 pub record Gives (R : Type 0) : Type 0 where
@@ -13,4 +12,4 @@ abbrev pub Judging : Type 0
 Judging = List ℕ → List ℕ → List ℕ → Gives Reply
 
 abbrev pub Answering : Type 0
-Answering = List ℕ → List ℕ → Gives Written
+Answering = List ℕ → List ℕ → Gives (Result ℕ Reply)

@@ -1,5 +1,5 @@
 -- 01's table ("What the reply says"), for the judge and for the answers entry. The rows of form, 1 to 13, are promise/specs/Table.antt.
-use Rattle.std.specs.Prelude.{ℕ, ◌+◌, ◌-◌, ◌<◌, ◌≤◌, ◌≡◌, List, [], length, take}
+use Rattle.std.specs.Prelude.{ℕ, ◌+◌, ◌-◌, ◌<◌, ◌≤◌, ◌≡◌, List, [], length, take, Result, Ok, Err}
 use Rattle.std.proofs.Math.Option.{some}
 use Rattle.words.specs.Code.{code_all}
 use Rattle.meaning.specs.Tests.{at, named}
@@ -17,8 +17,6 @@ use Rattle.reply.specs.Answer.{accepted, refused}
 use Rattle.reply.specs.declared.Paper.TheVariants.{Dossier, Certificate}
 use Rattle.reply.specs.declared.Reply.{Reply}
 use Rattle.reply.specs.declared.Verdict.TheVariants.{Opaque, Detectable}
-use Rattle.reply.specs.declared.Written.{Written}
-use Rattle.reply.specs.declared.Written.TheVariants.{Count, Refused}
 
 -- a certificate that is sound in form for D
 abbrev pub SoundFor : papers.Dossier → papers.Certificate → Type 0
@@ -68,10 +66,10 @@ unfoldable pub word_to : papers.Dossier → ℕ → ℕ
 word_to D j = bit (named (at D.probes j) λ e. answer D (policy D) e)
 
 -- The answers entry's rows, for the dossier's words d and the table t: what it answers, the words that are shown, and what the table then holds.
-pub data AnswersRow (d t : List ℕ) : Written → List ℕ → List ℕ → Type 0 where
+pub data AnswersRow (d t : List ℕ) : Result ℕ Reply → List ℕ → List ℕ → Type 0 where
   -- 1 to 9
-  form : {e p : ℕ} {us : List ℕ} → DossierRow d e p us → AnswersRow d t (Refused (refused e Dossier p (length us))) us t
+  form : {e p : ℕ} {us : List ℕ} → DossierRow d e p us → AnswersRow d t (Err (refused e Dossier p (length us))) us t
   -- 18: "answers table shorter than the probe count": "empty part at the dossier's start"
-  short : (D : papers.Dossier) → d ≡ code_dossier D → DossierForm D → length t < length D.probes → AnswersRow d t (Refused (refused 18 Dossier 0 0)) [] t
+  short : (D : papers.Dossier) → d ≡ code_dossier D → DossierForm D → length t < length D.probes → AnswersRow d t (Err (refused 18 Dossier 0 0)) [] t
   -- "replies with the count; words beyond stay"
-  count : (D : papers.Dossier) → d ≡ code_dossier D → DossierForm D → length D.probes ≤ length t → AnswersRow d t (Count (length D.probes)) [] (filled (word_to D) (length D.probes) t)
+  count : (D : papers.Dossier) → d ≡ code_dossier D → DossierForm D → length D.probes ≤ length t → AnswersRow d t (Ok (length D.probes)) [] (filled (word_to D) (length D.probes) t)

@@ -3,26 +3,33 @@
 
 ghost use Rattle.std.specs.Prelude.{◌≡◌, List, ℕ, length};
 ghost use Rattle.reply.specs.Answer as said;
+ghost use Rattle.reply.specs.Numbers.{number};
 ghost use Rattle.judging.specs.Judge.{judge_of, Sound, Offered};
 ghost use Rattle.judging.specs.Rounds.{rounds_after};
 ghost use Rattle.judging.specs.Answers.{answers_of, table_after};
 ghost use Rattle.judging.specs.Table.{Row, AnswersRow};
 ghost use Rattle.reply.specs.Shown.{shown_of, shown_by};
 
-use certificate::Form as Proposed;
-use dossier::Form;
-use promise::{Layout, Proposal, Thing};
-use reply::{Paper, Reply, Verdict, Written};
+use evaluation::{PolicyAt, Which};
+use promise::{ClauseAt, EntryAt, Layout, Proposal};
+use reply::{Fault, Paper, Refusal, Reply, Verdict};
 
-// A refusal.
-fn refused(number: u16, paper: Paper, place: usize, count: usize) -> Reply
-    ensures { result ≡ said.refused number paper place count }
+// A lent table is too short: the refusal shows no word, at the dossier's start.
+const SHORT_TABLE: Refusal = Refusal {
+    fault: Fault::ShortTable,
+    place: 0,
+    count: 0,
+};
+
+// The reply that tells a refusal of a paper.
+fn refused(refusal: Refusal, paper: Paper) -> Reply
+    ensures { result ≡ said.refused (number refusal.fault) paper refusal.place refusal.count }
 {
     Reply {
-        verdict: Verdict::Refused(number),
-        paper: paper,
-        place: place,
-        count: count,
+        verdict: Verdict::Refused(u16::from(refusal.fault)),
+        paper,
+        place: refusal.place,
+        count: refusal.count,
     }
 }
 
@@ -32,7 +39,7 @@ fn judge_papers(d: &[u16], o: Layout, c: &[u16], x: Proposal, rounds: &mut [u16]
     ensures { (result ≡ judge_of d.now c.now (length rounds.old)) × (rounds.new ≡ rounds_after d.now c.now rounds.old) }
 {
     if rounds.len() < o.atoms {
-        return refused(18, Paper::Dossier, 0, 0);
+        return refused(SHORT_TABLE, Paper::Dossier);
     }
     verdict::judge_sound(d, o, c, x, rounds)
 }
@@ -43,8 +50,8 @@ fn judge_with(d: &[u16], o: Layout, c: &[u16], rounds: &mut [u16]) -> Reply
     ensures { (result ≡ judge_of d.now c.now (length rounds.old)) × (rounds.new ≡ rounds_after d.now c.now rounds.old) }
 {
     match certificate::certificate(c, o.atoms, o.ncreds) {
-        Proposed::Refused(e, p, w) => refused(e, Paper::Certificate, p, w),
-        Proposed::Sound(x) => judge_papers(d, o, c, x, rounds),
+        Err(refusal) => refused(refusal, Paper::Certificate),
+        Ok(x) => judge_papers(d, o, c, x, rounds),
     }
 }
 
@@ -55,35 +62,42 @@ pub fn judge(dossier: &[u16], certificate: &[u16], rounds: &mut [u16]) -> Reply
     ensures { Row dossier.now certificate.now rounds.old result (shown_of dossier.now certificate.now result) rounds.new }
 {
     match dossier::dossier(dossier) {
-        Form::Refused(e, p, w) => refused(e, Paper::Dossier, p, w),
-        Form::Sound(o) => judge_with(dossier, o, certificate, rounds),
+        Err(refusal) => refused(refusal, Paper::Dossier),
+        Ok(o) => judge_with(dossier, o, certificate, rounds),
     }
 }
 
 // With the dossier sound: 18, then the answers.
-fn answers_with(d: &[u16], o: Layout, table: &mut [u16]) -> Written
+fn answers_with(d: &[u16], o: Layout, table: &mut [u16]) -> Result<usize, Reply>
     requires { Sound d.now o }
     ensures { (result ≡ answers_of d.now table.old) × (table.new ≡ table_after d.now table.old) }
 {
     let n = o.nprobes;
     if table.len() < n {
-        return Written::Refused(refused(18, Paper::Dossier, 0, 0));
+        return Err(refused(SHORT_TABLE, Paper::Dossier));
     }
     let mut creds = [0usize; 32];
     let mut probes = [0usize; 64];
-    promise::starts(d, o.creds, o.ncreds, Thing::Credential, &mut creds);
-    promise::starts(d, o.probes, n, Thing::Entry, &mut probes);
-    evaluation::answers(d, o, &creds, &probes, d, table);
-    Written::Count(n)
+    promise::starts::<ClauseAt>(d, o.creds, &mut creds[..o.ncreds]);
+    promise::starts::<EntryAt>(d, o.probes, &mut probes[..n]);
+    let own = PolicyAt {
+        words: d,
+        layout: o,
+        creds: &creds,
+        witness: d,
+        which: Which::Own,
+    };
+    own.answers(&probes, table);
+    Ok(n)
 }
 
 // Every probe's answer, 0 or 1, from the table's start; words beyond stay. A refusal is about the dossier and leaves the table as it was; `shown` shows its words, whatever
 // certificate it is handed beside the dossier.
-pub fn answers(dossier: &[u16], table: &mut [u16]) -> Written
+pub fn answers(dossier: &[u16], table: &mut [u16]) -> Result<usize, Reply>
     ensures { (c : List ℕ) → AnswersRow dossier.now table.old result (shown_by dossier.now c result) table.new }
 {
     match dossier::dossier(dossier) {
-        Form::Refused(e, p, w) => Written::Refused(refused(e, Paper::Dossier, p, w)),
-        Form::Sound(o) => answers_with(dossier, o, table),
+        Err(refusal) => Err(refused(refusal, Paper::Dossier)),
+        Ok(o) => answers_with(dossier, o, table),
     }
 }

@@ -1,5 +1,6 @@
+pub mod Bools
+pub mod Equal
+pub mod Lists
 pub mod Names
-pub mod Value
-pub mod Rules
 pub mod Tables
-pub mod Turns
+pub mod Values

@@ -1,13 +1,9 @@
 -- What rules 6, 7 and 8 ask of the things that their data words name.
-use Rattle.std.specs.Prelude.{ℕ, Bool, true, not, List}
+use Rattle.std.specs.Prelude.{ℕ, Bool, not, List}
 use Rattle.meaning.specs.Tests.{◌and◌, ◌or◌, ◌is◌, all, mem, at, named}
 use Rattle.meaning.specs.Policy.{Clause}
 use Rattle.meaning.specs.Papers.{Statement, Literal}
 use Rattle.meaning.specs.Rules.{same_statement, is_in, denied, claims, omit, others}
-
--- an atom is denied, or, where the statement's own count, is one of them
-unfoldable pub covered_atom : Bool → List Literal → Statement → ℕ → Bool
-covered_atom own ls s x = own and mem x s.atoms or denied ls s x
 
 -- a credential is one of the statement's own, or its head is denied
 unfoldable pub covered_cred : List Clause → List Literal → Statement → ℕ → Bool
@@ -15,7 +11,7 @@ covered_cred cs ls s x = mem x s.creds or named (at cs x) λ c. denied ls s c.he
 
 -- rule 6, of l and m, all but the credentials
 unfoldable pub cuts : List Literal → Literal → Literal → Bool
-cuts ls l m = l.positive and not m.positive and l.said.atom is m.said.atom and all (covered_atom true ls l.said) m.said.atoms
+cuts ls l m = l.positive and not m.positive and l.said.atom is m.said.atom and all (λ x. mem x l.said.atoms or denied ls l.said x) m.said.atoms
 
 -- rule 7, of credential d, whose number is c, and m, l and h
 unfoldable pub withouts : Clause → ℕ → Literal → Literal → Literal → Bool

@@ -1,4 +1,5 @@
 pub mod Named
-pub mod Tri
+pub mod Supposing
 pub mod Asks
+pub mod Codes
 pub mod Ready

@@ -5,16 +5,16 @@ use mathlib.Core.List.{[], ◌∷◌}
 use Rattle.reply.specs.Part.{part_of}
 use Rattle.reply.specs.Shown.{shown_of}
 use Rattle.reply.specs.declared.Paper.TheVariants.{Certificate}
-use Rattle.reply.specs.declared.Written.TheVariants.{Count}
 use Rattle.judging.specs.Answers.{answers_of, table_after}
 use Rattle.judging.specs.Cases.{T1}
 use Rattle.judging.proofs.Cases.{Computes, computed}
 use Rattle.text.specs.Line.{digits_of, decimal}
 use Rattle.printed.specs.Lists.{spaced, spaced_all, list_of, answers_head, answers_line, asking, shown_head, shown_line}
 use Rattle.printed.proofs.Lists.{answers_line_is}
+use Rattle.std.specs.Prelude.{Ok}
 
 -- (a) in a table with a word more than T1 has probes: `ANSWERS 2 : 1 0 7`
-answered_a : (answers_of T1 (7 ∷ 7 ∷ 7 ∷ []) ≡ Count 2) × (table_after T1 (7 ∷ 7 ∷ 7 ∷ []) ≡ 1 ∷ 0 ∷ 7 ∷ [])
+answered_a : (answers_of T1 (7 ∷ 7 ∷ 7 ∷ []) ≡ Ok 2) × (table_after T1 (7 ∷ 7 ∷ 7 ∷ []) ≡ 1 ∷ 0 ∷ 7 ∷ [])
 unfolding Computes
 answered_a = computed _ (Memᴰ.head refl)
 

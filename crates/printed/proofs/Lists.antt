@@ -12,8 +12,6 @@ use Rattle.reply.specs.declared.Paper.{Paper}
 use Rattle.reply.specs.declared.Paper.TheVariants.{Dossier, Certificate}
 use Rattle.reply.specs.Shown.{of_paper, shown_of}
 use Rattle.reply.specs.declared.Reply.{Reply}
-use Rattle.reply.specs.declared.Written.{Written}
-use Rattle.reply.specs.declared.Written.TheVariants.{Count, Refused}
 use Rattle.judging.specs.Judge.{judge_of}
 use Rattle.judging.specs.Rounds.{rounds_after}
 use Rattle.judging.specs.Answers.{answers_of, table_after}
@@ -22,6 +20,7 @@ use Rattle.text.specs.Line.{digits_of, decimal, reply_text}
 use Rattle.text.proofs.Value.{value_of, digits_mean}
 use Rattle.text.proofs.Put.{digits_short, reply_short, put_none, put_length, Placed, placed_more}
 use Rattle.printed.specs.Lists.{spaced, spaced_all, list_of, answers_head, answers_line, rounds_line, shown_head, shown_line}
+use Rattle.std.specs.Prelude.{Result, Ok, Err}
 
 pub spaced_short : (w : ℕ) → length (spaced w) ≤ 6
 unfolding spaced
@@ -68,10 +67,10 @@ pub titled_short : (title : List ℕ) (n : ℕ) {r : ℕ} → r ≡ length (titl
 unfolding decimal
 titled_short title n e = omega (arith, length-append title (digits_of 20 n), digits_short 20 n)
 
-pub head_short : (r : Written) → length (answers_head r) ≤ 82
+pub head_short : (r : Result ℕ Reply) → length (answers_head r) ≤ 82
 unfolding answers_head decimal
-head_short (Count n) = simp length-append (omega (arith, digits_short 20 n))
-head_short (Refused reply) = reply_short reply
+head_short (Ok n) = simp length-append (omega (arith, digits_short 20 n))
+head_short (Err reply) = reply_short reply
 
 pub shown_head_short : (ws : List ℕ) → length (shown_head ws) ≤ 26
 unfolding shown_head decimal
@@ -94,9 +93,9 @@ shown_few d c r = go r.paper (part_few d r.place r.count) (part_few c r.place r.
     go Certificate h k = omega arith
 
 -- the lines, of what was replied and of what was shown
-pub answers_line_is : (d t : List ℕ) {r : Written} {u : List ℕ} → r ≡ answers_of d t → u ≡ table_after d t → answers_head r ++ list_of u ≡ answers_line d t
+pub answers_line_is : (d t : List ℕ) {r : Result ℕ Reply} {u : List ℕ} → r ≡ answers_of d t → u ≡ table_after d t → answers_head r ++ list_of u ≡ answers_line d t
 unfolding answers_line
-answers_line_is d t e f = ap₂ (λ (x : Written) (y : List ℕ). answers_head x ++ list_of y) e f
+answers_line_is d t e f = ap₂ (λ (x : Result ℕ Reply) (y : List ℕ). answers_head x ++ list_of y) e f
 
 pub rounds_line_is : (d c t : List ℕ) {r : Reply} {u : List ℕ} → r ≡ judge_of d c (length t) → u ≡ rounds_after d c t → reply_text r ++ list_of u ≡ rounds_line d c t
 unfolding rounds_line

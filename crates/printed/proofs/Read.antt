@@ -2,6 +2,7 @@
 use Prim.Native.Nat.{ℕ, ◌+◌, ◌-◌, ◌/◌, ◌≤◌, min}
 use mathlib.Core.Path.{◌≡◌, sym, ap, ◌∙◌}
 use mathlib.Core.List.{List}
+use Rattle.std.specs.Prelude.{Option, None, Some}
 use native.Mathlib.Omega.{arith}
 use lib.ListN.{length, take, drop, length-drop}
 use lib.Seq.{take-append-le, drop-append-le}
@@ -11,8 +12,7 @@ use Rattle.judging.specs.Judge.{judge_of}
 use Rattle.text.specs.Bytes.{word_at, input_of}
 use Rattle.text.specs.Line.{line_of, input_line}
 use Rattle.text.proofs.Put.{line_short, input_line_short}
-use Rattle.text.specs.declared.Input.{Input}
-use Rattle.text.specs.declared.Input.TheVariants.{Bad, Papers}
+use Rattle.text.specs.declared.Papers.{Papers}
 use Rattle.printed.specs.Printed.{words_of, printed, printed_for, table_for, table_read}
 
 -- a part that ends within the rows
@@ -25,28 +25,28 @@ part_rows f n p k old e h =
     ∙ take-append-le k (drop p (rows f n)) (drop n old) (omega (arith, length-drop p (rows f n)))
 
 -- the line for papers, with the words in a table
-pub printed_papers : (bs old : List ℕ) (d c : ℕ) {r : Input} {t : List ℕ} → r ≡ input_of bs → r ≡ Papers d c → t ≡ filled (word_at bs) (min (length bs / 2) (length old)) old → length bs / 2 ≤ length old → d + c + 1 ≡ length bs / 2
-    → line_of (judge_of (part t 1 d) (part t (1 + d) c) 64) ≡ printed bs
+pub printed_papers : (bs old : List ℕ) (found : Papers) {r : Option Papers} {t : List ℕ} → r ≡ input_of bs → r ≡ Some found → t ≡ filled (word_at bs) (min (length bs / 2) (length old)) old → length bs / 2 ≤ length old → found.dossier + found.certificate + 1 ≡ length bs / 2
+    → line_of (judge_of (part t 1 found.dossier) (part t (1 + found.dossier) found.certificate) 64) ≡ printed bs
 unfolding printed printed_for words_of
-printed_papers bs old d c {r} {t} e f g h l =
+printed_papers bs old found {r} {t} e f g h l =
     let m : min (length bs / 2) (length old) ≡ length bs / 2 = omega arith in
     let g' : t ≡ filled (word_at bs) (length bs / 2) old = g ∙ ap (λ (n : ℕ). filled (word_at bs) n old) m in
-    ap (λ (x : List ℕ). line_of (judge_of x (part t (1 + d) c) 64)) (part_rows (word_at bs) (length bs / 2) 1 d old g' (omega arith))
-    ∙ ap (λ (x : List ℕ). line_of (judge_of (part (rows (word_at bs) (length bs / 2)) 1 d) x 64)) (part_rows (word_at bs) (length bs / 2) (1 + d) c old g' (omega arith))
+    ap (λ (x : List ℕ). line_of (judge_of x (part t (1 + found.dossier) found.certificate) 64)) (part_rows (word_at bs) (length bs / 2) 1 found.dossier old g' (omega arith))
+    ∙ ap (λ (x : List ℕ). line_of (judge_of (part (rows (word_at bs) (length bs / 2)) 1 found.dossier) x 64)) (part_rows (word_at bs) (length bs / 2) (1 + found.dossier) found.certificate old g' (omega arith))
     ∙ ap (printed_for (rows (word_at bs) (length bs / 2))) (sym f ∙ e)
 
-pub printed_bad : (bs : List ℕ) {r : Input} → r ≡ input_of bs → r ≡ Bad → input_line ≡ printed bs
+pub printed_bad : (bs : List ℕ) {r : Option Papers} → r ≡ input_of bs → r ≡ None → input_line ≡ printed bs
 unfolding printed printed_for
 printed_bad bs e f = ap (printed_for (words_of bs)) (sym f ∙ e)
 
 -- the table after it: as it was, or with the words at its start
-pub table_bad : (bs t : List ℕ) {r : Input} → r ≡ input_of bs → r ≡ Bad → t ≡ table_read bs t
+pub table_bad : (bs t : List ℕ) {r : Option Papers} → r ≡ input_of bs → r ≡ None → t ≡ table_read bs t
 unfolding table_read table_for
 table_bad bs t e f = ap (table_for bs t) (sym f ∙ e)
 
-pub table_papers : (bs old : List ℕ) (d c : ℕ) {r : Input} {t : List ℕ} → r ≡ input_of bs → r ≡ Papers d c → t ≡ filled (word_at bs) (min (length bs / 2) (length old)) old → length bs / 2 ≤ length old → t ≡ table_read bs old
+pub table_papers : (bs old : List ℕ) (found : Papers) {r : Option Papers} {t : List ℕ} → r ≡ input_of bs → r ≡ Some found → t ≡ filled (word_at bs) (min (length bs / 2) (length old)) old → length bs / 2 ≤ length old → t ≡ table_read bs old
 unfolding table_read table_for
-table_papers bs old d c e f g h =
+table_papers bs old found e f g h =
     let m : min (length bs / 2) (length old) ≡ length bs / 2 = omega arith in
     g ∙ ap (λ (n : ℕ). filled (word_at bs) n old) m ∙ ap (table_for bs old) (sym f ∙ e)
 
@@ -55,9 +55,9 @@ pub printed_short : (bs : List ℕ) → length (printed bs) ≤ 96
 unfolding printed printed_for
 printed_short bs = go (words_of bs) (input_of bs)
   where
-    go : (ws : List ℕ) (i : Input) → length (printed_for ws i) ≤ 96
-    go ws Bad = input_line_short
-    go ws (Papers d c) = line_short (judge_of (part ws 1 d) (part ws (1 + d) c) 64)
+    go : (ws : List ℕ) (i : Option Papers) → length (printed_for ws i) ≤ 96
+    go ws None = input_line_short
+    go ws (Some p) = line_short (judge_of (part ws 1 p.dossier) (part ws (1 + p.dossier) p.certificate) 64)
 
 -- `&ws[p..p + k]` is the part of k words from p on
 pub cut_part : (ws : List ℕ) (p k : ℕ) → take (p + k - p) (drop p ws) ≡ part ws p k

@@ -1,12 +1,10 @@
 -- What is printed of the answers entry, of the judge with the table that it was lent, and of `shown`: the reply's text, and then words in decimal.
 -- A letter is its number in ASCII: 32 the space, 58 the colon, 10 the line feed.
-use Rattle.std.specs.Prelude.{ℕ, List, [], ◌∷◌, ◌++◌, length}
+use Rattle.std.specs.Prelude.{ℕ, List, [], ◌∷◌, ◌++◌, length, Result, Ok, Err}
 use Rattle.reply.specs.Shown.{shown_of}
 use Rattle.reply.specs.declared.Paper.{Paper}
 use Rattle.reply.specs.declared.Verdict.TheVariants.{Opaque}
 use Rattle.reply.specs.declared.Reply.{Reply}
-use Rattle.reply.specs.declared.Written.{Written}
-use Rattle.reply.specs.declared.Written.TheVariants.{Count, Refused}
 use Rattle.judging.specs.Judge.{judge_of}
 use Rattle.judging.specs.Rounds.{rounds_after}
 use Rattle.judging.specs.Answers.{answers_of, table_after}
@@ -25,9 +23,9 @@ unfoldable pub list_of : List ℕ → List ℕ
 list_of ws = (32 ∷ 58 ∷ []) ++ spaced_all ws ++ (10 ∷ [])
 
 -- ANSWERS and the count, or the refusal
-unfoldable pub answers_head : Written → List ℕ
-answers_head (Count n) = (65 ∷ 78 ∷ 83 ∷ 87 ∷ 69 ∷ 82 ∷ 83 ∷ 32 ∷ []) ++ decimal n
-answers_head (Refused reply) = reply_text reply
+unfoldable pub answers_head : Result ℕ Reply → List ℕ
+answers_head (Ok n) = (65 ∷ 78 ∷ 83 ∷ 87 ∷ 69 ∷ 82 ∷ 83 ∷ 32 ∷ []) ++ decimal n
+answers_head (Err reply) = reply_text reply
 
 -- the line of the answers entry for the dossier d and the lent table t: what it answers, and the table after it
 unfoldable pub answers_line : List ℕ → List ℕ → List ℕ

@@ -10,15 +10,10 @@ ghost use Rattle.text.specs.Line.{put, decimal, line_of};
 ghost use Rattle.printed.specs.Printed.{printed, table_read};
 ghost use Rattle.printed.specs.Lists.{spaced, spaced_all, list_of, answers_head, answers_line, rounds_line, asking, shown_line};
 
-use reply::{Paper, Reply, Verdict, Written};
-use text::Input;
+use reply::{Paper, Reply, Verdict};
 
-// A table for the judge, with room for every dossier's atoms.
-fn lent() -> [u16; 64]
-    ensures { 64 ≡ length result }
-{
-    [0; 64]
-}
+// How many words are lent to the judge: room for every dossier's atoms.
+const LENT: usize = 64;
 
 // The line of the judge's reply to the two papers. Answers how many bytes it has.
 pub fn papers_line(dossier: &[u16], certificate: &[u16], out: &mut [u8]) -> usize
@@ -26,7 +21,7 @@ pub fn papers_line(dossier: &[u16], certificate: &[u16], out: &mut [u8]) -> usiz
     ensures { (out.new ≡ put out.old 0 (line_of (judge_of dossier.now certificate.now 64)))
         × (result ≡ length (line_of (judge_of dossier.now certificate.now 64))) }
 {
-    let mut rounds = lent();
+    let mut rounds = [0; LENT];
     text::line(judging::judge(dossier, certificate, &mut rounds), out)
 }
 
@@ -47,12 +42,11 @@ pub fn stdin_line(bytes: &[u8], table: &mut [u16], out: &mut [u8]) -> usize
     ensures { (out.new ≡ put out.old 0 (printed bytes.now)) × (result ≡ length (printed bytes.now))
         × (table.new ≡ table_read bytes.now table.old) }
 {
-    let found = text::split(bytes);
-    match found {
-        Input::Bad => text::input_line(out),
-        Input::Papers(d, c) => {
+    match text::split(bytes) {
+        None => text::input_line(out),
+        Some(papers) => {
             text::words(bytes, table);
-            papers_at(table, 1, d, c, out)
+            papers_at(table, 1, papers.dossier, papers.certificate, out)
         }
     }
 }
@@ -63,7 +57,7 @@ fn spaced_word(word: u16, out: &mut [u8], at: usize) -> usize
     ensures { (out.new ≡ put out.old at (spaced word)) × (result ≡ at + length (spaced word)) }
 {
     let p = text::write(b" ", out, at);
-    text::digits(word as usize, 5, out, p)
+    text::digits(usize::from(word), 5, out, p)
 }
 
 // Writes the words, each after a space, from place `at` on. Answers the place after them.
@@ -71,12 +65,9 @@ fn spaced_words(words: &[u16], out: &mut [u8], at: usize) -> usize
     requires { at + 6 * length words.now ≤ length out.old }
     ensures { (out.new ≡ put out.old at (spaced_all words.now)) × (result ≡ at + length (spaced_all words.now)) }
 {
-    let n = words.len();
     let mut p = at;
-    let mut i = 0;
-    while i < n {
-        p = spaced_word(words[i], out, p);
-        i += 1;
+    for word in words {
+        p = spaced_word(*word, out, p);
     }
     p
 }
@@ -102,13 +93,13 @@ fn headed(title: &[u8], n: usize, out: &mut [u8]) -> usize
 }
 
 // Writes what the answers entry answered at the table's start, without a line feed. Answers how many bytes it has.
-fn answers_head(answer: Written, out: &mut [u8]) -> usize
+fn answers_head(answer: Result<usize, Reply>, out: &mut [u8]) -> usize
     requires { 96 ≤ length out.old }
     ensures { (out.new ≡ put out.old 0 (answers_head answer)) × (result ≡ length (answers_head answer)) }
 {
     match answer {
-        Written::Count(n) => headed(b"ANSWERS ", n, out),
-        Written::Refused(reply) => text::reply_text(reply, out),
+        Ok(n) => headed(b"ANSWERS ", n, out),
+        Err(reply) => text::reply_text(reply, out),
     }
 }
 
@@ -156,9 +147,9 @@ pub fn shown_line<'a>(
 {
     let reply = Reply {
         verdict: Verdict::Opaque,
-        paper: paper,
-        place: place,
-        count: count,
+        paper,
+        place,
+        count,
     };
     let words = reply::shown(dossier, certificate, reply);
     let p = headed(b"SHOWN ", words.len(), out);

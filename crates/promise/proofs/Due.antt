@@ -10,10 +10,8 @@ use lib.Dec.{ltb, leb}
 use lib.ListN.{length}
 use borrow.Author.Tests.{ltb-true, ltb-false, leb-true, leb-false}
 use Rattle.words.specs.Out.{Out, got, need}
-use Rattle.words.specs.Read.{ranged, in_range, next, rising, listed, times, section}
+use Rattle.words.specs.Read.{Range, Any, Below, ranged, in_range, next, rising, listed, times, section}
 use Rattle.words.specs.Code.{code_all, RisingFrom}
-use Rattle.words.specs.declared.Range.{Range}
-use Rattle.words.specs.declared.Range.TheVariants.{Any, Below}
 use Rattle.words.proofs.Promise.{Reads, reads_ranged, reads_next, Within, all_cons}
 use Rattle.meaning.specs.Tests.{◌∈◌}
 use Rattle.promise.specs.Due.{Word, What, one, count, label, atom, credential, above, InList, InSection}

@@ -1,15 +1,45 @@
 -- A formula held as words, by its first word: for every way of reading it, and for its end.
 use Prim.Native.Nat.{ℕ, zero, suc, ◌+◌, ◌-◌, ◌<◌, ◌≤◌}
-use mathlib.Core.Path.{◌≡◌, refl, ap, ap₂, ◌∙◌}
+use mathlib.Core.Path.{◌≡◌, refl, sym, subst, ap, ap₂, ◌∙◌}
 use mathlib.Core.List.{List}
 use mathlib.Core.Bool.{Bool, true, false}
-use lib.Dec.{eqb}
+use lib.Dec.{eqb, ltb}
 use native.Mathlib.Omega.{arith}
 use lib.ListN.{length, get_or}
-use borrow.Author.Tests.{eq-eqb, ne_eqb, eqb-true, eqb-false, lt-ltb, le-ltb}
+use borrow.Author.Tests.{eq-eqb, ne_eqb, eqb-true, eqb-false, lt-ltb, le-ltb, ltb-true, ltb-false}
 use Rattle.meaning.specs.Tests.{◌is◌, choose}
 use Rattle.meaning.specs.Formula.{Reading, read}
-use Rattle.promise.specs.Formula.{formula_at, formula_end, FormulaFits}
+use Rattle.promise.specs.Formula.{formula_at, formula_end, FormulaFits, sign_of}
+use Rattle.promise.specs.declared.Sign.{Sign}
+use Rattle.promise.specs.declared.Sign.TheVariants.{Atom, True, Not, And, Or}
+
+-- what a sign says of its word
+abbrev pub Says : Sign → ℕ → Type 0
+Says (Atom a) x = (x ≡ a) × (x < 256)
+Says True x = x ≡ 256
+Says Not x = x ≡ 257
+Says And x = x ≡ 258
+Says Or x = 258 < x
+
+pub sign_says : (x : ℕ) {s : Sign} → s ≡ sign_of x → Says s x
+unfolding sign_of choose ◌is◌
+sign_says x {s} e = subst (λ (t : Sign). Says t x) (sym e) (below (ltb x 256) refl)
+  where
+    last : (b : Bool) → eqb x 258 ≡ b → 257 < x → Says (choose b And Or) x
+    last true e h = eqb-true _ _ e
+    last false e h = let n : x ≡ 258 → ⊥ = eqb-false _ _ e in omega arith
+
+    third : (b : Bool) → eqb x 257 ≡ b → 256 < x → Says (choose b Not (choose (eqb x 258) And Or)) x
+    third true e h = eqb-true _ _ e
+    third false e h = let n : x ≡ 257 → ⊥ = eqb-false _ _ e in last (eqb x 258) refl (omega arith)
+
+    second : (b : Bool) → eqb x 256 ≡ b → 255 < x → Says (choose b True (choose (eqb x 257) Not (choose (eqb x 258) And Or))) x
+    second true e h = eqb-true _ _ e
+    second false e h = let n : x ≡ 256 → ⊥ = eqb-false _ _ e in third (eqb x 257) refl (omega arith)
+
+    below : (b : Bool) → ltb x 256 ≡ b → Says (choose b (Atom x) (choose (eqb x 256) True (choose (eqb x 257) Not (choose (eqb x 258) And Or)))) x
+    below true e = (refl, ltb-true _ _ e)
+    below false e = let n : 256 ≤ x = ltb-false _ _ e in second (eqb x 256) refl (omega arith)
 
 -- it is at least one deep
 pub deep : (n d : ℕ) (ws : List ℕ) (p : ℕ) → FormulaFits n d ws p → d ≡ suc (d - 1)
@@ -98,11 +128,3 @@ module _ (n d : ℕ) (ws : List ℕ) (p : ℕ) (f : FormulaFits n d ws p) where
               let k : get_or ws p 0 ≡ 257 → ⊥ = λ y. omega (arith, y) in
               let g : get_or ws p 0 ≡ 258 → ⊥ = λ y. e (w ∙ y) in
               rw (deep n d ws p f) (simp (le-ltb _ _ a, le-ltb _ _ b, ne_eqb _ _ c, ne_eqb _ _ k, ne_eqb _ _ g) (ap₂ R.disj v₁ u₂, z₂))
-
-          pub read_joined : Valued (choose (x is 258) (R.conj v u) (R.disj v u)) z
-          unfolding choose ◌is◌
-          read_joined = go (eqb x 258) refl
-            where
-              go : (b : Bool) → eqb x 258 ≡ b → Valued (choose b (R.conj v u) (R.disj v u)) z
-              go true e = read_and (eqb-true _ _ e)
-              go false e = read_or (eqb-false _ _ e)

@@ -7,10 +7,12 @@ use mathlib.Core.Option.{none, some}
 use native.Mathlib.Omega.{arith}
 use native.Mathlib.Numerals.{add-one}
 use native.Mathlib.Decide.{dec_lt}
-use lib.ListN.{length, get_or, take, drop, set, length-append, length-drop}
-use lib.Seq.{set_at, get_or-append_seam, drop-cons, ext_get_or}
+use lib.ListN.{length, get_or, take, drop, set, length-append, length-take, length-drop}
+use Rattle.std.proofs.lemmas.List.{get_or-take, get_or-drop}
+use lib.Seq.{set_at, get_or-append_seam, drop-cons, drop-length, ext_get_or}
 use Rattle.meaning.specs.Tests.{◌∈◌, at}
 use Rattle.promise.specs.Place.{part, Kind, place, many, Fit, Starts, rows, filled}
+use Rattle.promise.specs.Thing.{Things}
 
 -- ---- a part of the words
 
@@ -31,6 +33,24 @@ module _ (ws : List ℕ) (p k : ℕ) (more : 0 < k) (h : p + k ≤ length ws) wh
 
   pub part_later : {x : ℕ} → x ∈ part ws (p + 1) (k - 1) → x ∈ part ws p k
   part_later m = rw (part_cons ws p k more h) (Memᴰ.tail m)
+
+-- a part as the code takes it, from a place to a place
+pub part_is : (ws : List ℕ) (p k : ℕ) → take (p + k - p) (drop p ws) ≡ part ws p k
+unfolding part
+part_is ws p k = ap (λ (n : ℕ). take n (drop p ws)) (omega arith)
+
+-- what lies in it, as the code reads it
+pub part_size : (ws : List ℕ) (p k : ℕ) → p + k ≤ length ws → length (take (p + k - p) (drop p ws)) ≡ k
+part_size ws p k h = simp (length-take, length-drop) (omega arith)
+
+pub part_item : (ws : List ℕ) (p k i : ℕ) → i < k → get_or (take (p + k - p) (drop p ws)) i 0 ≡ get_or ws (p + i) 0
+part_item ws p k i less = get_or-take (p + k - p) (drop p ws) i 0 (omega arith) ∙ get_or-drop p ws i 0
+
+pub part_in : (ws : List ℕ) (i p k : ℕ) → p + k ≤ length ws → i < k → get_or ws (p + i) 0 ∈ part ws p k
+part_in ws zero p k h less = let e : p ≡ p + 0 = omega arith in subst (λ (q : ℕ). get_or ws q 0 ∈ part ws p k) e (part_first ws p k less h)
+part_in ws (suc i) p k h less =
+    let e : p + 1 + i ≡ p + suc i = omega arith in
+    subst (λ (q : ℕ). get_or ws q 0 ∈ part ws p k) e (part_later ws p k (omega arith) h (part_in ws i (p + 1) (k - 1) (omega arith) (omega arith)))
 
 -- ---- places
 
@@ -66,6 +86,11 @@ module _ {A : Type 0} (K : Kind A) (ws : List ℕ) (p k : ℕ) where
     pub fit_on : Fit K ws p k → Fit K ws (K.next ws p) (k - 1)
     unfolding Fit
     fit_on f j h = rw (place_next (K.next ws) p j) (f (suc j) (omega arith))
+
+-- of a kind, that the words of k things are there, as the code's walks ask it
+pub things_fit : {A : Type 0} (K : Kind A) (ws : List ℕ) (p k : ℕ) → Fit K ws p k → Things K.next K.ok ws p k
+unfolding Fit Things
+things_fit K ws p k f = f
 
 module _ {A : Type 0} (K : Kind A) (ws : List ℕ) where
   pub many_length : (p k : ℕ) → length (many K ws p k) ≡ k
@@ -135,6 +160,21 @@ filled_starts next p k old e h = record { long = rw e (omega (arith, filled_leng
 pub filled_none : (f : ℕ → ℕ) (old : List ℕ) → old ≡ filled f 0 old
 unfolding filled rows
 filled_none f old = refl
+
+-- a table whose front was filled
+pub front_starts : (next : ℕ → ℕ) (p k : ℕ) (old : List ℕ) {t : List ℕ} → k ≤ length old → t ≡ rows (place next p) (length (take k old)) → Starts next p k (t ++ drop k old)
+unfolding filled
+front_starts next p k old h e =
+    let n : length (take k old) ≡ k = length-take k old ∙ omega arith in
+    filled_starts next p k old (ap (λ (l : List ℕ). l ++ drop k old) (e ∙ ap (rows (place next p)) n)) h
+
+pub front_things : (next : List ℕ → ℕ → ℕ) (ok : List ℕ → ℕ → Type 0) (ws : List ℕ) (p k : ℕ) (old : List ℕ) → k ≤ length old → Things next ok ws p k → Things next ok ws p (length (take k old))
+front_things next ok ws p k old h f = let n : k ≡ length (take k old) = omega (arith, length-take k old) in subst (Things next ok ws p) n f
+
+-- a table that is filled to its end
+pub filled_whole : (f : ℕ → ℕ) (old : List ℕ) → filled f (length old) old ≡ rows f (length old)
+unfolding filled
+filled_whole f old = ap (λ (l : List ℕ). rows f (length old) ++ l) (drop-length old) ∙ append-nil _
 
 pub filled_on : (f : ℕ → ℕ) (i : ℕ) (old : List ℕ) {t : List ℕ} {v : ℕ} → t ≡ filled f i old → v ≡ f i → i < length old → set t i v ≡ filled f (i + 1) old
 unfolding filled rows

@@ -1,18 +1,12 @@
 -- Tests of two parts, and one step of a test along a list whose first element and rest are known.
-use Prim.Native.Nat.{ℕ, zero, suc, ◌+◌, ◌-◌, ◌<◌, ◌≤◌}
+use Prim.Native.Nat.{ℕ}
 use mathlib.Core.Path.{◌≡◌, refl, sym, ap, ◌∙◌}
-use mathlib.Core.Bool.{Bool, true, false, not, beq}
+use mathlib.Core.Bool.{Bool, true, false, not, beq, ◌&&◌}
 use mathlib.Core.List.{List, [], ◌∷◌}
-use mathlib.Core.Option.{Option, none}
-use native.Mathlib.Omega.{arith}
 use borrow.Author.Tests.{eq-eqb, ne_eqb}
 use lib.Dec.{eqb}
-use lib.ListN.{length, take, drop, length-take, length-drop}
-use Rattle.meaning.specs.Tests.{◌and◌, ◌or◌, ◌is◌, agree, same, all, any, put, keep, named}
-use Rattle.meaning.specs.Rules.{omit, others}
-use Rattle.meaning.proofs.Tests.{or_left}
-use Rattle.promise.specs.Place.{part}
-use Rattle.promise.proofs.Place.{part_none, part_cons}
+use Rattle.meaning.specs.Tests.{◌and◌, ◌is◌, agree, same, all}
+use Rattle.std.specs.Str.{bytes_eq}
 
 -- ---- two parts
 
@@ -33,10 +27,6 @@ pub and_no : (a : Bool) {b : Bool} → b ≡ false → a and b ≡ false
 unfolding ◌and◌
 and_no true e = e
 and_no false e = refl
-
-pub no_or : {a : Bool} (b : Bool) → a ≡ false → a or b ≡ b
-unfolding ◌or◌
-no_or b e = rw e
 
 pub is_of : {m n : ℕ} → m ≡ n → m is n ≡ true
 unfolding ◌is◌
@@ -61,30 +51,14 @@ signs_agree true false h = sym h
 signs_agree false true h = sym h
 signs_agree false false h = refl
 
-pub named_no : {A : Type 0} {o : Option A} (f : A → Bool) → o ≡ none → named o f ≡ false
-unfolding named
-named_no f e = rw e
-
 -- ---- one step along a list
 
 module _ {A : Type 0} (P : A → Bool) {l : List A} where
-  pub any_none : l ≡ [] → any P l ≡ false
-  unfolding any
-  any_none e = rw e
-
   pub all_none : l ≡ [] → all P l ≡ true
   unfolding all
   all_none e = rw e
 
   module _ {x : A} {m : List A} (e : l ≡ x ∷ m) where
-    pub any_yes : P x ≡ true → any P l ≡ true
-    unfolding any
-    any_yes h = rw e (or_left _ h)
-
-    pub any_on : P x ≡ false → any P l ≡ any P m
-    unfolding any
-    any_on h = rw e (no_or _ h)
-
     pub all_on : P x ≡ true → all P l ≡ all P m
     unfolding all
     all_on h = rw e (yes_and _ h)
@@ -93,80 +67,19 @@ module _ {A : Type 0} (P : A → Bool) {l : List A} where
     unfolding all
     all_not h = rw e (no_and _ h)
 
--- every element but number i; past the end that is every element
-pub others_none : {A : Type 0} {l : List A} (i : ℕ) → l ≡ [] → others l i ≡ []
-unfolding others
-others_none i e = rw e
+-- a test can't say both
+pub clash : {A : Type 0} {b : Bool} → b ≡ true → b ≡ false → A
+clash e h = let c : true ≡ false = sym e ∙ h in cc
 
-pub others_all : {A : Type 0} (l : List A) (i : ℕ) → length l ≤ i → others l i ≡ l
-unfolding others
-others_all [] i h = refl
-others_all (x ∷ l) zero h = absurd (omega arith)
-others_all (x ∷ l) (suc i) h = ap (λ m. x ∷ m) (others_all l i (omega arith))
+both_and : (a b : Bool) → (a && b) ≡ (a and b)
+unfolding ◌and◌
+both_and true b = refl
+both_and false b = refl
 
-module _ {A : Type 0} {l m : List A} {x : A} (e : l ≡ x ∷ m) (i : ℕ) where
-  pub others_first : i ≡ 0 → others l i ≡ m
-  unfolding others
-  others_first h = rw (e, h)
-
-  pub others_on : 0 < i → others l i ≡ x ∷ others m (i - 1)
-  unfolding others
-  others_on h = on (i - 1) (omega arith)
-    where
-      on : (j : ℕ) → i ≡ suc j → others l i ≡ x ∷ others m j
-      on j z = rw (e, z)
-
--- two lists of numbers
-pub same_none : {l m : List ℕ} → l ≡ [] → m ≡ [] → same l m ≡ true
-unfolding same
-same_none e f = rw (e, f)
-
-pub same_short : {l m n : List ℕ} {y : ℕ} → l ≡ [] → m ≡ y ∷ n → same l m ≡ false
-unfolding same
-same_short e f = rw (e, f)
-
-module _ {l m l' m' : List ℕ} {x y : ℕ} (e : l ≡ x ∷ l') (f : m ≡ y ∷ m') where
-  pub same_on : x ≡ y → same l m ≡ same l' m'
-  unfolding same
-  same_on h = rw (e, f) (yes_and _ (is_of h))
-
-  pub same_not : (x ≡ y → ⊥) → same l m ≡ false
-  unfolding same
-  same_not h = rw (e, f) (no_and _ (is_not h))
-
-pub same_length : (l m : List ℕ) → (length l ≡ length m → ⊥) → same l m ≡ false
-unfolding same
-same_length [] [] h = absurd (h refl)
-same_length [] (y ∷ m) h = refl
-same_length (x ∷ l) [] h = refl
-same_length (x ∷ l) (y ∷ m) h = and_no (x is y) (same_length l m (λ e. h (ap suc e)))
-
--- two parts of the words, as long as the code counts them
-pub same_differ : (ws vs : List ℕ) (p q k j : ℕ) → p + k ≤ length ws → q + j ≤ length vs → (k ≡ j → ⊥) → same (part ws p k) (part vs q j) ≡ false
-unfolding part
-same_differ ws vs p q k j h g d =
-    let a : length (take k (drop p ws)) ≡ k = simp (length-take, length-drop) (omega arith) in
-    let b : length (take j (drop q vs)) ≡ j = simp (length-take, length-drop) (omega arith) in
-    same_length _ _ (λ e. d (sym a ∙ e ∙ b))
-
-pub same_end : (ws : List ℕ) (a m : ℕ) → a + m ≤ length ws → {l : List ℕ} → l ≡ [] → eqb m 0 ≡ same (part ws a m) l
-unfolding same
-same_end ws a m h {l} e = rw e (go m refl)
-  where
-    go : (n : ℕ) → m ≡ n → eqb n 0 ≡ same (part ws a n) []
-    go zero z = sym (ap (λ x. same x []) (part_none ws a zero (omega arith)))
-    go (suc n) z = ne_eqb (suc n) 0 (λ y. omega (arith, y)) ∙ sym (ap (λ x. same x []) (part_cons ws a (suc n) (omega arith) (omega arith)))
-
--- a list without c
-pub omit_none : (c : ℕ) {l : List ℕ} → l ≡ [] → omit c l ≡ []
-unfolding omit keep
-omit_none c e = rw e
-
-module _ (c : ℕ) {l m : List ℕ} {x : ℕ} (e : l ≡ x ∷ m) where
-  pub omit_skip : x ≡ c → omit c l ≡ omit c m
-  unfolding omit keep put
-  omit_skip h = rw e (simp (is_of h))
-
-  pub omit_keep : (x ≡ c → ⊥) → omit c l ≡ x ∷ omit c m
-  unfolding omit keep put
-  omit_keep h = rw e (simp (is_not h))
+-- what `==` says of two lists of numbers
+pub same_is : (l m : List ℕ) → bytes_eq l m ≡ same l m
+unfolding same ◌and◌ ◌is◌
+same_is [] [] = refl
+same_is [] (y ∷ m) = refl
+same_is (x ∷ l) [] = refl
+same_is (x ∷ l) (y ∷ m) = ap (λ (b : Bool). eqb x y && b) (same_is l m) ∙ both_and (eqb x y) (same l m)

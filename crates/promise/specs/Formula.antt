@@ -6,6 +6,12 @@ use Rattle.meaning.specs.Papers.{Entry}
 use Rattle.promise.specs.Form.{FormulaForm}
 use Rattle.promise.specs.Place.{part, Kind}
 use Rattle.promise.specs.declared.EntryAt.{EntryAt}
+use Rattle.promise.specs.declared.Sign.{Sign}
+use Rattle.promise.specs.declared.Sign.TheVariants.{Atom, True, Not, And, Or}
+
+-- what a word of a formula stands for: "below n an atom, 256 true, 257 not, 258 and, 259 or"
+unfoldable pub sign_of : ℕ → Sign
+sign_of x = choose (ltb x 256) (Atom x) (choose (x is 256) True (choose (x is 257) Not (choose (x is 258) And Or)))
 
 -- where the formula that begins at p ends, if it is at most so deep
 unfoldable pub formula_end : ℕ → List ℕ → ℕ → ℕ

@@ -1,24 +1,35 @@
--- The things of the four sections that have a table of where each begins.
+-- Of each kind of thing: where the next begins, and that the words which say so are there; and so of k things, one after the other.
 use Rattle.std.specs.Prelude.{ℕ, ◌≤◌, ◌<◌, List, length}
 use Rattle.promise.specs.Place.{place}
 use Rattle.promise.specs.Clause.{clause_at, marked_at}
 use Rattle.promise.specs.Formula.{entry_at}
 use Rattle.promise.specs.Line.{line}
-use Rattle.promise.specs.declared.Thing.{Thing}
-use Rattle.promise.specs.declared.Thing.TheVariants.{Clause, Credential, Entry, Line}
 
--- where the next begins, and that the words which say so are there
-unfoldable pub next_of : Thing → List ℕ → ℕ → ℕ
-next_of Clause = λ ws p. (marked_at ws p).clause.next
-next_of Credential = λ ws p. (clause_at ws p).next
-next_of Entry = λ ws p. (entry_at ws p).next
-next_of Line = line.next
+-- a credential, or a clause of a witness
+abbrev pub clause_next : List ℕ → ℕ → ℕ
+clause_next ws p = (clause_at ws p).next
 
-unfoldable pub ok_of : Thing → List ℕ → ℕ → Type 0
-ok_of Clause = λ ws p. (marked_at ws p).clause.next ≤ length ws
-ok_of Credential = λ ws p. (clause_at ws p).next ≤ length ws
-ok_of Entry = λ ws p. (entry_at ws p).next ≤ length ws
-ok_of Line = line.ok
+abbrev pub ClauseOk : List ℕ → ℕ → Type 0
+ClauseOk ws p = clause_next ws p ≤ length ws
 
-unfoldable pub FitOf : Thing → List ℕ → ℕ → ℕ → Type 0
-FitOf t ws p k = (j : ℕ) → j < k → ok_of t ws (place (next_of t ws) p j)
+-- a clause of the dossier
+abbrev pub marked_next : List ℕ → ℕ → ℕ
+marked_next ws p = (marked_at ws p).clause.next
+
+abbrev pub MarkedOk : List ℕ → ℕ → Type 0
+MarkedOk ws p = marked_next ws p ≤ length ws
+
+-- a probe, or the secret
+abbrev pub entry_next : List ℕ → ℕ → ℕ
+entry_next ws p = (entry_at ws p).next
+
+abbrev pub EntryOk : List ℕ → ℕ → Type 0
+EntryOk ws p = entry_next ws p ≤ length ws
+
+-- a line of a proof; that its words are there is `LineFits`
+abbrev pub line_next : List ℕ → ℕ → ℕ
+line_next = line.next
+
+-- k things of a kind from p on
+unfoldable pub Things : (List ℕ → ℕ → ℕ) → (List ℕ → ℕ → Type 0) → List ℕ → ℕ → ℕ → Type 0
+Things next ok ws p k = (j : ℕ) → j < k → ok ws (place (next ws) p j)

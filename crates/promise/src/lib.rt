@@ -1,14 +1,15 @@
 // What lies at a place of a sound paper: the reader's promise to the layers above, which never add up places themselves.
 #![tactic(auto)]
 
-ghost use Rattle.std.specs.Prelude.{◌≡◌, ◌+◌, ◌≤◌, ◌<◌, length, get_or};
+ghost use Rattle.std.specs.Prelude.{◌≡◌, ℕ, ◌+◌, ◌≤◌, ◌<◌, List, length, get_or};
 ghost use Rattle.meaning.specs.Tests.{same};
+ghost use Rattle.meaning.specs.Formula.{Reading, read};
 ghost use Rattle.meaning.specs.Rules.{same_statement};
-ghost use Rattle.promise.specs.Place.{part, place, Fit, filled};
-ghost use Rattle.promise.specs.Thing.{next_of, ok_of, FitOf};
+ghost use Rattle.promise.specs.Place.{part, place, Fit, rows};
+ghost use Rattle.promise.specs.Thing.{clause_next, ClauseOk, marked_next, MarkedOk, entry_next, EntryOk, line_next, Things};
 ghost use Rattle.promise.specs.Clause.{clause_at, marked_at};
-ghost use Rattle.promise.specs.Formula.{entry_at};
-ghost use Rattle.promise.specs.Line.{literal_at, said_of, Held, data_count, line_at, literal};
+ghost use Rattle.promise.specs.Formula.{entry_at, FormulaFits, formula_at, formula_end, sign_of};
+ghost use Rattle.promise.specs.Line.{literal_at, said_of, Held, data_count, line_at, literal, LineFits};
 
 // A clause: its head, where its body stands and how many atoms it has, and the place after it.
 #[derive(Clone, Copy)]
@@ -76,13 +77,18 @@ pub enum Proposal {
     Proof(usize),
 }
 
-// A thing of one of the sections.
-#[derive(Clone, Copy)]
-pub enum Thing {
-    Clause,
-    Credential,
-    Entry,
-    Line,
+// A kind of thing that lies in the words, one after the other.
+pub trait Thing {
+    // Where the next thing begins.
+    ghost next: { List ℕ → ℕ → ℕ };
+
+    // The words that say so are there.
+    ghost ok: { List ℕ → ℕ → Type 0 };
+
+    // The place after the thing at p.
+    fn next_at(s: &[u16], p: usize) -> usize
+        requires { ok s.now p }
+        ensures { result ≡ next s.now p };
 }
 
 // The word at p.
@@ -195,54 +201,66 @@ pub fn after_literals(s: &[u16], p: usize, k: usize) -> usize
     ensures { result ≡ place (literal.next s.now) p k }
 {
     let mut at = p;
-    let mut i = 0;
-    while i < k {
-        let l = literal_at(s, at);
-        at = l.next;
-        i += 1;
+    for _ in 0..k {
+        at = literal_at(s, at).next;
     }
     at
 }
 
-// The place after the thing at p.
-pub fn next_at(s: &[u16], p: usize, thing: Thing) -> usize
-    requires { ok_of thing s.now p }
-    ensures { result ≡ next_of thing s.now p }
-{
-    match thing {
-        Thing::Clause => {
-            let m = marked_at(s, p);
-            let c = m.clause;
-            c.next
-        }
-        Thing::Credential => {
-            let c = clause_at(s, p);
-            c.next
-        }
-        Thing::Entry => {
-            let e = entry_at(s, p);
-            e.next
-        }
-        Thing::Line => {
-            let l = line_at(s, p);
-            let q = l.literals;
-            let k = l.count;
-            after_literals(s, q, k)
-        }
+// A credential, or a clause of a witness.
+impl Thing for ClauseAt {
+    ghost next = { clause_next };
+
+    ghost ok = { ClauseOk };
+
+    fn next_at(s: &[u16], p: usize) -> usize {
+        clause_at(s, p).next
     }
 }
 
-// Writes where each of the k things from p on begins into the table; the rest of the table stays.
-pub fn starts(s: &[u16], p: usize, k: usize, thing: Thing, table: &mut [usize])
-    requires { FitOf thing s.now p k × (k ≤ length table.old) }
-    ensures { table.new ≡ filled (place (next_of thing s.now) p) k table.old }
+// A clause of the dossier.
+impl Thing for MarkedAt {
+    ghost next = { marked_next };
+
+    ghost ok = { MarkedOk };
+
+    fn next_at(s: &[u16], p: usize) -> usize {
+        marked_at(s, p).clause.next
+    }
+}
+
+// A probe, or the secret.
+impl Thing for EntryAt {
+    ghost next = { entry_next };
+
+    ghost ok = { EntryOk };
+
+    fn next_at(s: &[u16], p: usize) -> usize {
+        entry_at(s, p).next
+    }
+}
+
+// A line of a proof.
+impl Thing for LineAt {
+    ghost next = { line_next };
+
+    ghost ok = { LineFits };
+
+    fn next_at(s: &[u16], p: usize) -> usize {
+        let v = line_at(s, p);
+        after_literals(s, v.literals, v.count)
+    }
+}
+
+// Writes into the table where each of as many things from p on begins.
+pub fn starts<T: Thing>(s: &[u16], p: usize, table: &mut [usize])
+    requires { Things T.next T.ok s.now p (length table.old) }
+    ensures { table.new ≡ rows (place (T.next s.now) p) (length table.old) }
 {
     let mut at = p;
-    let mut i = 0;
-    while i < k {
-        table[i] = at;
-        at = next_at(s, at, thing);
-        i += 1;
+    for start in table.iter_mut() {
+        *start = at;
+        at = T::next_at(s, at);
     }
 }
 
@@ -251,33 +269,92 @@ pub fn same_words(s: &[u16], p: usize, k: usize, t: &[u16], q: usize, j: usize) 
     requires { (p + k ≤ length s.now) × (q + j ≤ length t.now) }
     ensures { result ≡ same (part s.now p k) (part t.now q j) }
 {
-    if k != j {
-        return false;
-    }
-    let mut a = p;
-    let mut b = q;
-    let mut left = k;
-    while 0 < left {
-        if s[a] != t[b] {
-            return false;
-        }
-        a += 1;
-        b += 1;
-        left -= 1;
-    }
-    true
+    s[p..p + k] == t[q..q + j]
 }
 
 // Whether m, a literal in s, and l, one in t, speak of one statement.
+#[inline(always)]
 pub fn same_said(s: &[u16], m: LiteralAt, t: &[u16], l: LiteralAt) -> bool
     requires { Held s.now m × Held t.now l }
     ensures { result ≡ same_statement (said_of s.now m) (said_of t.now l) }
 {
-    if m.atom != l.atom {
-        return false;
+    m.atom == l.atom
+        && same_words(s, m.creds, m.ncreds, t, l.creds, l.ncreds)
+        && same_words(s, m.atoms, m.natoms, t, l.atoms, l.natoms)
+}
+
+// How a formula is read, with values of any type: what true, an atom, not, and, or give.
+pub trait Valuation {
+    type Value: Copy;
+
+    // The reading; it knows the atoms below a limit.
+    ghost reading: { Self → Reading Self.Value };
+
+    ghost atoms: { Self → ℕ };
+
+    fn truth(&self) -> Self::Value
+        ensures { result ≡ (reading self.now).always };
+
+    fn atom(&self, x: usize) -> Self::Value
+        requires { x < atoms self.now }
+        ensures { result ≡ (reading self.now).atom x };
+
+    fn negated(&self, a: Self::Value) -> Self::Value
+        ensures { result ≡ (reading self.now).neg a };
+
+    fn both(&self, a: Self::Value, b: Self::Value) -> Self::Value
+        ensures { result ≡ (reading self.now).conj a b };
+
+    fn either(&self, a: Self::Value, b: Self::Value) -> Self::Value
+        ensures { result ≡ (reading self.now).disj a b };
+}
+
+// What a word of a formula stands for.
+#[derive(Clone, Copy, Debug, PartialEq, Eq)]
+pub enum Sign {
+    Atom(usize),
+    True,
+    Not,
+    And,
+    Or,
+}
+
+// Below 256 an atom, 256 true, 257 not, 258 and, any other or.
+impl From<usize> for Sign {
+    ghost from_gives = { λ x sign. sign ≡ sign_of x };
+
+    fn from(x: usize) -> Sign {
+        match x {
+            0..=255 => Sign::Atom(x),
+            256 => Sign::True,
+            257 => Sign::Not,
+            258 => Sign::And,
+            _ => Sign::Or,
+        }
     }
-    if same_words(s, m.creds, m.ncreds, t, l.creds, l.ncreds) {
-        return same_words(s, m.atoms, m.natoms, t, l.atoms, l.natoms);
+}
+
+// The value of the formula at `at`, which is at most `deep` deep, and the place after it.
+pub fn value_at<V: Valuation>(v: &V, s: &[u16], at: usize, deep: usize) -> (V::Value, usize)
+    requires { FormulaFits (V.atoms v.now) deep s.now at }
+    ensures { (result.0 ≡ read (V.reading v.now) (formula_at deep s.now at)) × (result.1 ≡ formula_end deep s.now at) }
+{
+    match Sign::from(word(s, at)) {
+        Sign::Atom(x) => (v.atom(x), at + 1),
+        Sign::True => (v.truth(), at + 1),
+        Sign::Not => {
+            let (a, next) = value_at(v, s, at + 1, deep - 1);
+            (v.negated(a), next)
+        }
+        Sign::And => {
+            let (a, middle) = value_at(v, s, at + 1, deep - 1);
+            let (b, next) = value_at(v, s, middle, deep - 1);
+            (v.both(a, b), next)
+        }
+        Sign::Or => {
+            let (a, middle) = value_at(v, s, at + 1, deep - 1);
+            let (b, next) = value_at(v, s, middle, deep - 1);
+            (v.either(a, b), next)
+        }
     }
-    false
 }

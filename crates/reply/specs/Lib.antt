@@ -1,3 +1,4 @@
 pub mod Part
 pub mod Shown
 pub mod Answer
+pub mod Numbers

@@ -4,6 +4,7 @@
 ghost use Rattle.std.specs.Prelude.{◌≡◌};
 ghost use Rattle.reply.specs.Part.{part_of, part_at};
 ghost use Rattle.reply.specs.Shown.{shown_of, shown_at};
+ghost use Rattle.reply.specs.Numbers.{number};
 
 #[derive(Clone, Copy)]
 pub enum Paper {
@@ -18,6 +19,64 @@ pub enum Verdict {
     Refused(u16),
 }
 
+// What is wrong with the papers, in the order of the numbers that a refusal has.
+#[derive(Clone, Copy, Debug, PartialEq, Eq)]
+pub enum Fault {
+    // A word is missing: the paper has ended.
+    Ended = 1,
+    // A count or a length is too small or too large.
+    Limits,
+    // An atom number is not below n, the number of atoms.
+    Atom,
+    // A list does not rise.
+    NotRising,
+    // A mark or a sign is neither 0 nor 1.
+    Sign,
+    // A credential number is not below the number of credentials.
+    Credential,
+    // A formula word is above 259.
+    FormulaWord,
+    // A formula is deeper than 16, or not exactly as long as its length says.
+    FormulaShape,
+    // Words are left over.
+    LeftOver,
+    // The certificate has more than 24,000 words.
+    TooLong,
+    // The certificate is neither a witness nor a proof.
+    Kind,
+    // A rule is not 1 to 8.
+    Rule,
+    // Two literals of a line speak of one statement.
+    SaidTwice,
+    // The witness answers a probe otherwise than the dossier's policy.
+    ProbeDiffers,
+    // The witness gives the secret the value that it has in the dossier's policy.
+    SecretKept,
+    // A line of the proof does not follow by its rule.
+    LineFails,
+    // The last line is not empty.
+    LastNotEmpty,
+    // A lent table is too short.
+    ShortTable,
+}
+
+impl From<Fault> for u16 {
+    ghost from_gives = { λ fault e. e ≡ number fault };
+
+    // The fault's number.
+    fn from(fault: Fault) -> u16 {
+        fault as u16
+    }
+}
+
+// A refusal that a reader finds: what is wrong, the place in the paper that it reads, and how many words are shown.
+#[derive(Clone, Copy, Debug, PartialEq, Eq)]
+pub struct Refusal {
+    pub fault: Fault,
+    pub place: usize,
+    pub count: usize,
+}
+
 // The verdict, beside the paper's name, a place in it, and a count of words.
 #[derive(Clone, Copy)]
 pub struct Reply {
@@ -25,13 +84,6 @@ pub struct Reply {
     pub paper: Paper,
     pub place: usize,
     pub count: usize,
-}
-
-// What an entry that writes into a lent table answers: how many words (or bytes) it has written, or its refusal, a reply whose words `shown` shows.
-#[derive(Clone, Copy)]
-pub enum Written {
-    Count(usize),
-    Refused(Reply),
 }
 
 // So many words of `s` from the place on; the empty part at the end of `s` where they don't fit.
@@ -54,11 +106,8 @@ pub fn shown<'a>(dossier: &'a [u16], certificate: &'a [u16], reply: Reply) -> &'
     ensures { (result.now ≡ shown_of dossier.now certificate.now reply)
         × (result.ref_ptr ≡ shown_at dossier.entry certificate.entry reply) }
 {
-    let paper = reply.paper;
-    let place = reply.place;
-    let count = reply.count;
-    match paper {
-        Paper::Dossier => part_of(dossier, place, count),
-        Paper::Certificate => part_of(certificate, place, count),
+    match reply.paper {
+        Paper::Dossier => part_of(dossier, reply.place, reply.count),
+        Paper::Certificate => part_of(certificate, reply.place, reply.count),
     }
 }

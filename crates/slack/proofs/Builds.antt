@@ -23,9 +23,6 @@ use Rattle.reply.specs.Answer.{accepted}
 use Rattle.reply.specs.declared.Reply.{Reply}
 use Rattle.reply.specs.declared.Verdict.{Verdict}
 use Rattle.reply.specs.declared.Verdict.TheVariants.{Opaque, Detectable, Refused}
-use Rattle.reply.specs.declared.Written.{Written}
-use Rattle.reply.specs.declared.Written.TheVariants as written
-use Rattle.reply.specs.declared.Written.TheVariants.{Count}
 use Rattle.judging.specs.Rounds.{rounds_after}
 use Rattle.judging.specs.Answers.{answers_of, table_after}
 use Rattle.judging.specs.Cases.{T1, T2, P, Meets}
@@ -35,15 +32,16 @@ use Rattle.judging.specs.Table.{Both}
 use Rattle.judging.proofs.Cases.{compute}
 use Rattle.judging.proofs.Table.{row_replied, row_kept}
 use Rattle.slack.specs.Builds.{EarlierSave, EmptyBuilds}
+use Rattle.std.specs.Prelude.{Result, Ok, Err}
 
 -- ---- what the definitions compute
 
-three_answered : (answers_of T1 (7 ∷ 7 ∷ 7 ∷ []) ≡ Count 2) × (table_after T1 (7 ∷ 7 ∷ 7 ∷ []) ≡ (1 ∷ 0 ∷ 7 ∷ []))
+three_answered : (answers_of T1 (7 ∷ 7 ∷ 7 ∷ []) ≡ Ok 2) × (table_after T1 (7 ∷ 7 ∷ 7 ∷ []) ≡ (1 ∷ 0 ∷ 7 ∷ []))
 unfolding compute
 three_answered = (refl, refl)
 
 -- T2 has one probe
-one_answer : answers_of T2 (7 ∷ []) ≡ Count 1
+one_answer : answers_of T2 (7 ∷ []) ≡ Ok 1
 unfolding compute
 one_answer = refl
 
@@ -93,9 +91,9 @@ kind (Refused e) = 2
 kind_of : Reply → ℕ
 kind_of r = kind r.verdict
 
-count_in : Written → ℕ
-count_in (Count k) = k
-count_in (written.Refused r) = 0
+count_in : Result ℕ Reply → ℕ
+count_in (Ok k) = k
+count_in (Err r) = 0
 
 module _ (f : Judging) where
   -- what f says of the papers' codes it says of their words, and back

@@ -1,5 +1,5 @@
 -- The theorem of specs/NoSlack.antt, under its name in small letters.
-use mathlib.Core.Path.{◌≡◌, sym, ◌∙◌}
+use mathlib.Core.Path.{◌≡◌, sym, ap₂, ◌∙◌}
 use mathlib.Core.List.{[]}
 use Rattle.judging.proofs.Table.{row_replied, row_kept}
 use Rattle.slack.specs.NoSlack.{NoSlack}
@@ -18,20 +18,21 @@ no_slack =
       judge_sound = λ κs a x y e f p q. one p.reply q.reply;
       judge_sound_table = λ κs a x y e f p q. one p.table q.table;
       line_follows = λ κs a x y e f p q. one p q;
+      line_seen = λ κs a x y e f p q. one p q;
       answer_in = λ κs a x y e f p q. one p q;
       answer_at = λ κs a x y e f p q. one p q;
       known = λ κs a x y e f p q. one p q;
-      last_of = λ κs a x y e f p q. one p q;
       widen_table = λ κs a x y e f p q. one p q;
       rounds_table = λ κs a x y e f p q. one p q;
-      word_of = λ κs a x y e f p q. one p q;
       answered_table = λ κs a x y e f p q. one p q;
       own_answers = λ κs a x y e f p q. one p.1 q.1;
       own_answers_table = λ κs a x y e f p q. one p.0 q.0;
       certificate = λ κs a x y e f p q. one p q;
       dossier = λ κs a x y e f p q. one p q;
-      section_after = λ κs a x y e f p q. one p q;
-      clause_read = λ κs a x y e f p q. one p q;
+      line_read = λ κs a x y e f p q. one p.0 q.0;
+      clause_read = λ κs a x y e f p q. one p.0 q.0;
+      marked_read = λ κs a x y e f p q. one p.0 q.0;
+      entry_read = λ κs a x y e f p q. one p.0 q.0;
       word = λ κs a x y e f p q. one p.0 q.0;
       clause_at = λ κs a x y e f p q. one p q;
       marked_at = λ κs a x y e f p q. one p q;
@@ -40,13 +41,23 @@ no_slack =
       line_at = λ κs a x y e f p q. one p q;
       data_count = λ κs a x y e f p q. one p.0 q.0;
       after_literals = λ κs a x y e f p q. one p q;
-      next_at = λ κs a x y e f p q. one p q;
-      starts_table = λ κs a x y e f p q. one p q;
+      clause_ends = λ κs a x y e f p q. one p q;
+      marked_ends = λ κs a x y e f p q. one p q;
+      entry_ends = λ κs a x y e f p q. one p q;
+      line_ends = λ κs a x y e f p q. one p q;
+      sign = λ κs a x y e f p q. one p q;
       same_words = λ κs a x y e f p q. one p q;
       same_said = λ κs a x y e f p q. one p q;
-      word_in = λ κs a x y e f p q. one p q;
+      starts_table = λ T laws thing dict κs a x y e f p q. one p q;
+      value_at = λ V laws value plain copy valuation dict clone clone_dict κs a x y e f p q. ap₂ (λ u v. (u, v)) (one p.0 q.0) (one p.1 q.1);
+      word_in = λ κs a x y e f p q. one p.0 q.0;
       rising_words = λ κs a x y e f p q. one p q;
       list_at = λ κs a x y e f p q. one p q;
+      at_word = λ κs a x y e f p q. one p q;
+      at_end = λ κs a x y e f p q. one p q;
+      section_after = λ T laws item dict κs a x y e f p q. one p.0 q.0;
+      last_section = λ T laws item dict κs a x y e f p q. one p q;
+      number = λ κs a x y e f p q. one p q;
       shown_words = λ κs a x y e f p q. one p.0 q.0;
       shown_place = λ κs a x y e f p q. one p.1 q.1;
       split = λ κs a x y e f p q. one p q;

@@ -1,5 +1,5 @@
 -- "These empty builds have to break the promise": each fails the demands and the cases that 01 names, of any function.
-use Rattle.std.specs.Prelude.{ℕ, ◌≤◌, ◌≡◌, true, List, length, get_or}
+use Rattle.std.specs.Prelude.{ℕ, ◌≤◌, ◌≡◌, true, List, length, get_or, Ok}
 use Rattle.meaning.specs.Tests.{◌∈◌}
 use Rattle.meaning.specs.Policy.{Policy}
 use Rattle.meaning.specs.Papers.{Entry, Dossier, policy, visible, Line, witness, proof}
@@ -11,7 +11,6 @@ use Rattle.promise.specs.Form.{DossierForm}
 use Rattle.reply.specs.Answer.{accepted, refused}
 use Rattle.reply.specs.declared.Paper.{Paper}
 use Rattle.reply.specs.declared.Verdict.TheVariants.{Opaque, Detectable}
-use Rattle.reply.specs.declared.Written.TheVariants.{Count}
 use Rattle.judging.specs.Cases.{Meets, case_a, case_b, case_c, case_d, case_e, case_g}
 use Rattle.judging.specs.Demands.{Tabled, AnswersTabled, Accepts, Demand2, Demand3}
 use Rattle.judging.specs.Entries.{Judging, Answering}
@@ -63,7 +62,7 @@ pub record Broken (f : Judging) (g : Answering) : Type 0 where
   -- "one that leaves the answers table untouched, or gives an invented count": the same count for every sound dossier and every table that is long enough. (A build that always
   -- says 2 meets (a).)
   pub untouched : ((d t : List ℕ) → (g d t).table ≡ t) → (AnswersTabled g → ⊥) × (Meets f g case_a → ⊥)
-  pub invented : (k : ℕ) → ((D : Dossier) (t : List ℕ) → DossierForm D → length D.probes ≤ length t → (g (code_dossier D) t).reply ≡ Count k)
+  pub invented : (k : ℕ) → ((D : Dossier) (t : List ℕ) → DossierForm D → length D.probes ≤ length t → (g (code_dossier D) t).reply ≡ Ok k)
       → (AnswersTabled g → ⊥) × ((k ≡ 2 → ⊥) → Meets f g case_a → ⊥)
   -- and builds that do not tell why a probe differed (request A5): one that leaves the lent table untouched; one that tells whether an atom holds, by 0 and 1, and not in which
   -- round it was added

@@ -1,4 +1,4 @@
--- "That any two replies allowed by a promise coincide is a proved fact": for every public function, over its contract itself.
+-- "That any two replies allowed by a promise coincide is a proved fact": for every public function but `text::read` (how many bytes come is the input's to say), over its contract itself.
 -- `Reads.Post` is what the checker reads of a function's contract: of the lifetimes, the arguments, the answer, and the parameters at exit.
 use Rattle.std.specs.Prelude.{ℕ, ◌≡◌, List}
 use Rattle.std.specs.Borrow.{MutBor}
@@ -6,19 +6,20 @@ use Rattle.judging.proofs.judge.Reads as judging-judge
 use Rattle.judging.proofs.answers.Reads as judging-answers
 use Rattle.verdict.proofs.judge_sound.Reads as verdict-judge-sound
 use Rattle.lines.proofs.line_follows.Reads as lines-line-follows
+use Rattle.lines.proofs.line.Line.at.Reads as lines-line-at
 use Rattle.evaluation.proofs.answer_in.Reads as evaluation-answer-in
-use Rattle.evaluation.proofs.answer_at.Reads as evaluation-answer-at
-use Rattle.evaluation.proofs.known.Reads as evaluation-known
-use Rattle.evaluation.proofs.last_of.Reads as evaluation-last-of
+use Rattle.evaluation.proofs.PolicyAt.answer_at.Reads as evaluation-answer-at
+use Rattle.evaluation.proofs.PolicyAt.known.Reads as evaluation-known
 use Rattle.evaluation.proofs.widen.Reads as evaluation-widen
-use Rattle.evaluation.proofs.rounds_at.Reads as evaluation-rounds-at
-use Rattle.evaluation.proofs.word_of.Reads as evaluation-word-of
-use Rattle.evaluation.proofs.answers.Reads as evaluation-answers
-use Rattle.evaluation.proofs.own_answers.Reads as evaluation-own-answers
+use Rattle.evaluation.proofs.PolicyAt.rounds_at.Reads as evaluation-rounds-at
+use Rattle.evaluation.proofs.PolicyAt.answers.Reads as evaluation-answers
+use Rattle.evaluation.proofs.PolicyAt.own_answers.Reads as evaluation-own-answers
 use Rattle.certificate.proofs.certificate.Reads as certificate-certificate
 use Rattle.dossier.proofs.dossier.Reads as dossier-dossier
-use Rattle.dossier.proofs.section_after.Reads as dossier-section-after
-use Rattle.dossier.proofs.clause_at.Reads as dossier-clause-at
+use Rattle.certificate.proofs.LineItem.read.Reads as certificate-line
+use Rattle.dossier.proofs.ClauseItem.read.Reads as dossier-clause
+use Rattle.dossier.proofs.MarkedItem.read.Reads as dossier-marked
+use Rattle.dossier.proofs.EntryItem.read.Reads as dossier-entry
 use Rattle.promise.proofs.word.Reads as promise-word
 use Rattle.promise.proofs.clause_at.Reads as promise-clause-at
 use Rattle.promise.proofs.marked_at.Reads as promise-marked-at
@@ -27,13 +28,23 @@ use Rattle.promise.proofs.literal_at.Reads as promise-literal-at
 use Rattle.promise.proofs.line_at.Reads as promise-line-at
 use Rattle.promise.proofs.data_count.Reads as promise-data-count
 use Rattle.promise.proofs.after_literals.Reads as promise-after-literals
-use Rattle.promise.proofs.next_at.Reads as promise-next-at
+use Rattle.promise.proofs.ClauseAtThing.next_at.Reads as promise-clause
+use Rattle.promise.proofs.MarkedAtThing.next_at.Reads as promise-marked
+use Rattle.promise.proofs.EntryAtThing.next_at.Reads as promise-entry
+use Rattle.promise.proofs.LineAtThing.next_at.Reads as promise-line
+use Rattle.promise.proofs.SignFromUsize.from.Reads as promise-sign
+use Rattle.promise.proofs.value_at.Reads as promise-value-at
 use Rattle.promise.proofs.starts.Reads as promise-starts
 use Rattle.promise.proofs.same_words.Reads as promise-same-words
 use Rattle.promise.proofs.same_said.Reads as promise-same-said
 use Rattle.words.proofs.word_in.Reads as words-word-in
 use Rattle.words.proofs.rising_words.Reads as words-rising-words
 use Rattle.words.proofs.list_at.Reads as words-list-at
+use Rattle.words.proofs.at_word.Reads as words-at-word
+use Rattle.words.proofs.at_end.Reads as words-at-end
+use Rattle.words.proofs.section_after.Reads as words-section-after
+use Rattle.words.proofs.last_section.Reads as words-last-section
+use Rattle.reply.proofs.U16FromFault.from.Reads as reply-number
 use Rattle.reply.proofs.shown.Reads as reply-shown
 use Rattle.text.proofs.split.Reads as text-split
 use Rattle.text.proofs.words.Reads as text-words
@@ -62,7 +73,7 @@ OneOf {K} {A} {X} {E} of Post = (κs : K) (a : A) (x y : X) (e f : E) → Post �
 abbrev pub OneTable : {K A X E : Type 0} → (E → MutBor (List ℕ)) → (K → A → X → E → Type 0) → Type 0
 OneTable {K} {A} {X} {E} table Post = (κs : K) (a : A) (x y : X) (e f : E) → Post κs a x e → Post κs a y f → (table e).now ≡ (table f).now
 
-pub record NoSlack : Type 0 where
+pub record NoSlack : Type 2 where
   -- judging
   pub judge : OneReply judging-judge.Post
   pub judge_table : OneTable (λ e. e.1.1.0) judging-judge.Post
@@ -72,22 +83,23 @@ pub record NoSlack : Type 0 where
   pub judge_sound : OneReply verdict-judge-sound.Post
   pub judge_sound_table : OneTable (λ e. e.1.1.1.1.0) verdict-judge-sound.Post
   pub line_follows : OneReply lines-line-follows.Post
+  pub line_seen : OneReply lines-line-at.Post
   -- evaluation
   pub answer_in : OneReply evaluation-answer-in.Post
   pub answer_at : OneReply evaluation-answer-at.Post
   pub known : OneReply evaluation-known.Post
-  pub last_of : OneReply evaluation-last-of.Post
   pub widen_table : OneTable (λ e. e.1.0) evaluation-widen.Post
-  pub rounds_table : OneTable (λ e. e.1.1.1.1.1.1.0) evaluation-rounds-at.Post
-  pub word_of : OneReply evaluation-word-of.Post
-  pub answered_table : OneTable (λ e. e.1.1.1.1.1.0) evaluation-answers.Post
+  pub rounds_table : OneTable (λ e. e.1.1.0) evaluation-rounds-at.Post
+  pub answered_table : OneTable (λ e. e.1.1.0) evaluation-answers.Post
   pub own_answers : OneReply evaluation-own-answers.Post
-  pub own_answers_table : OneTable (λ e. e.1.1.1.1.1.0) evaluation-own-answers.Post
+  pub own_answers_table : OneTable (λ e. e.1.1.0) evaluation-own-answers.Post
   -- certificate, dossier
   pub certificate : OneReply certificate-certificate.Post
   pub dossier : OneReply dossier-dossier.Post
-  pub section_after : OneReply dossier-section-after.Post
-  pub clause_read : OneReply dossier-clause-at.Post
+  pub line_read : OneReply certificate-line.Post
+  pub clause_read : OneReply dossier-clause.Post
+  pub marked_read : OneReply dossier-marked.Post
+  pub entry_read : OneReply dossier-entry.Post
   -- promise
   pub word : OneReply promise-word.Post
   pub clause_at : OneReply promise-clause-at.Post
@@ -97,15 +109,27 @@ pub record NoSlack : Type 0 where
   pub line_at : OneReply promise-line-at.Post
   pub data_count : OneReply promise-data-count.Post
   pub after_literals : OneReply promise-after-literals.Post
-  pub next_at : OneReply promise-next-at.Post
-  pub starts_table : OneTable (λ e. e.1.1.1.1.0) promise-starts.Post
+  pub clause_ends : OneReply promise-clause.Post
+  pub marked_ends : OneReply promise-marked.Post
+  pub entry_ends : OneReply promise-entry.Post
+  pub line_ends : OneReply promise-line.Post
+  pub sign : OneReply promise-sign.Post
   pub same_words : OneReply promise-same-words.Post
   pub same_said : OneReply promise-same-said.Post
+  -- and of any kind of thing, and of any values
+  pub starts_table : (T : _) (laws : _) (thing : _) (dict : _) → OneTable (λ e. e.1.1.0) (promise-starts.Post T laws thing dict)
+  pub value_at : (V : _) (laws : _) (value : _) (plain : _) (copy : _) (valuation : _) (dict : _) (clone : _) (clone_dict : _) → OneReply (promise-value-at.Post V laws value plain copy valuation dict clone clone_dict)
   -- words
   pub word_in : OneReply words-word-in.Post
   pub rising_words : OneReply words-rising-words.Post
   pub list_at : OneReply words-list-at.Post
-  -- reply: the words, and their place in memory
+  pub at_word : OneReply words-at-word.Post
+  pub at_end : OneReply words-at-end.Post
+  -- and of any kind of item
+  pub section_after : (T : _) (laws : _) (item : _) (dict : _) → OneReply (words-section-after.Post T laws item dict)
+  pub last_section : (T : _) (laws : _) (item : _) (dict : _) → OneReply (words-last-section.Post T laws item dict)
+  -- reply: a fault's number; the words that are shown, and their place in memory
+  pub number : OneReply reply-number.Post
   pub shown_words : OneOf (λ x. x.now) reply-shown.Post
   pub shown_place : OneOf (λ x. x.ref_ptr) reply-shown.Post
   -- text

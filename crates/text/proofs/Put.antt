@@ -5,8 +5,9 @@ use mathlib.Core.List.{List, [], ◌∷◌, ◌++◌, append_assoc}
 use native.Mathlib.Omega.{arith}
 use native.Mathlib.Decide.{dec_lt}
 use lib.ListN.{length, get_or, take, drop, set, length-append, length-take, length-drop}
-use lib.Seq.{set_at, drop-cons, take-suc, length-take-le, take_at, drop_at, drop-drop, append_snoc, paste-zero}
+use lib.Seq.{set_at, drop-cons, length-take-le, take_at, drop_at, drop-drop, append_snoc, paste-zero}
 use borrow.Author.Tests.{lt-ltb, le-ltb}
+use borrow.Rule.Slice.PartMut.{put_mid}
 use Rattle.reply.specs.declared.Paper.{Paper}
 use Rattle.reply.specs.declared.Paper.TheVariants.{Dossier, Certificate}
 use Rattle.reply.specs.declared.Verdict.{Verdict}
@@ -23,6 +24,15 @@ pub put_length : (t : List ℕ) (at : ℕ) (bs : List ℕ) → at + length bs �
 unfolding put
 put_length t at bs h = simp (length-append, length-take, length-drop) (omega arith)
 
+-- a piece that the library copies to a part
+pub put_part : (t : List ℕ) (at : ℕ) (piece : List ℕ) {u : List ℕ} → u ≡ piece → put_mid at (at + length piece - at) t u ≡ put t at piece
+unfolding put
+put_part t at piece e =
+    let n : at + (at + length piece - at) ≡ at + length piece = omega arith in
+    ap (λ (x : List ℕ). take at t ++ (x ++ drop (at + length piece - at) (drop at t))) e
+    ∙ ap (λ (x : List ℕ). take at t ++ (piece ++ x)) (drop-drop (at + length piece - at) at t ∙ ap (λ (k : ℕ). drop k t) n)
+    ∙ sym (append_assoc (take at t) piece (drop (at + length piece) t))
+
 -- one byte more
 pub put_on : (t : List ℕ) (at : ℕ) (bs : List ℕ) (v : ℕ) {u : List ℕ} {p : ℕ} → u ≡ put t at bs → p ≡ at + length bs → p < length t → set u p v ≡ put t at (bs ++ (v ∷ []))
 unfolding put
@@ -35,16 +45,6 @@ put_on t at bs v {u} {p} e f h =
     ∙ sym (append_snoc (take at t ++ bs) v (drop (suc p) t))
     ∙ ap (λ (x : List ℕ). x ++ drop (suc p) t) (append_assoc (take at t) bs (v ∷ []))
     ∙ ap (λ (k : ℕ). take at t ++ (bs ++ (v ∷ [])) ++ drop k t) l
-
--- the next byte of a piece
-pub put_next : (t : List ℕ) (at : ℕ) (piece : List ℕ) (i : ℕ) {u : List ℕ} → u ≡ put t at (take i piece) → i < length piece → at + length piece ≤ length t → set u (at + i) (get_or piece i 0) ≡ put t at (take (i + 1) piece)
-put_next t at piece i e h k =
-    let n : suc i ≡ i + 1 = omega arith in
-    put_on t at (take i piece) (get_or piece i 0) e (omega (arith, length-take-le i piece (omega arith))) (omega arith)
-    ∙ ap (put t at) (sym (take-suc piece i 0 h) ∙ ap (λ (j : ℕ). take j piece) n)
-
-pub put_length_next : (t : List ℕ) (at : ℕ) (piece : List ℕ) (i : ℕ) {u : List ℕ} → u ≡ put t at (take i piece) → i ≤ length piece → at + length piece ≤ length t → length u ≡ length t
-put_length_next t at piece i e h k = ap length e ∙ put_length t at (take i piece) (omega (arith, length-take-le i piece h))
 
 -- some bytes more
 pub put_more : (t : List ℕ) (at : ℕ) (xs bs : List ℕ) {u w : List ℕ} {p : ℕ} → u ≡ put t at xs → p ≡ at + length xs → w ≡ put u p bs → at ≤ length t → w ≡ put t at (xs ++ bs)

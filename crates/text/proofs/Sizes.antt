@@ -11,8 +11,8 @@ use lib.Dec.{eqb}
 use borrow.Author.Tests.{lt-ltb, le-ltb, le-leb, lt-leb, eqb-true}
 use Rattle.meaning.proofs.Tests.{cases, clash}
 use Rattle.text.specs.Bytes.{word_at, whole, announced, input_of}
-use Rattle.text.specs.declared.Input.{Input}
-use Rattle.text.specs.declared.Input.TheVariants.{Bad, Papers}
+use Rattle.std.specs.Prelude.{Option, None, Some}
+use Rattle.text.specs.declared.Papers.{Papers}
 
 module _ (n : ℕ) where
   pub whole_short : n < 2 → false ≡ whole n
@@ -37,22 +37,22 @@ module _ (n : ℕ) where
       go (no h) (no k) = (omega arith, omega arith, eqb-true (n % 2) 0 (whole_even (omega arith) (omega arith) ∙ e))
 
 module _ (bs : List ℕ) where
-  pub input_odd : whole (length bs) ≡ false → Bad ≡ input_of bs
+  pub input_odd : whole (length bs) ≡ false → None ≡ input_of bs
   unfolding input_of
   input_odd e = rw e
 
-  pub input_papers : whole (length bs) ≡ true → (d : ℕ) → d ≡ word_at bs 0 → d ≤ length bs / 2 - 1 → Papers d (length bs / 2 - 1 - d) ≡ input_of bs
+  pub input_papers : whole (length bs) ≡ true → (d : ℕ) → d ≡ word_at bs 0 → d ≤ length bs / 2 - 1 → Some (record { dossier = d; certificate = length bs / 2 - 1 - d }) ≡ input_of bs
   unfolding input_of announced
   input_papers e d f h = rw (e, sym f, le-leb d (length bs / 2 - 1) h)
 
-  pub input_short : whole (length bs) ≡ true → (d : ℕ) → d ≡ word_at bs 0 → length bs / 2 - 1 < d → Bad ≡ input_of bs
+  pub input_short : whole (length bs) ≡ true → (d : ℕ) → d ≡ word_at bs 0 → length bs / 2 - 1 < d → None ≡ input_of bs
   unfolding input_of announced
   input_short e d f h = rw (e, sym f, lt-leb d (length bs / 2 - 1) h)
 
 -- papers fill the input: the length word, the dossier's words and the certificate's
-unfoldable pub Fills : ℕ → Input → Type 0
-Fills n Bad = Unit {0}
-Fills n (Papers d c) = (d + c + 1 ≡ n / 2) × (n ≤ 65536)
+unfoldable pub Fills : ℕ → Option Papers → Type 0
+Fills n None = Unit {0}
+Fills n (Some p) = (p.dossier + p.certificate + 1 ≡ n / 2) × (n ≤ 65536)
 
 pub input_fills : (bs : List ℕ) → Fills (length bs) (input_of bs)
 unfolding Fills
@@ -65,6 +65,6 @@ input_fills bs = go (cases (whole (length bs))) (dec_lt (length bs / 2 - 1) (wor
         let w = whole_is (length bs) e in
         subst (Fills (length bs)) (input_papers bs e (word_at bs 0) refl (omega arith)) (omega (arith, w), w.1)
 
-pub papers_fill : (bs : List ℕ) (d c : ℕ) {r : Input} → r ≡ input_of bs → r ≡ Papers d c → (d + c + 1 ≡ length bs / 2) × (length bs ≤ 65536)
+pub papers_fill : (bs : List ℕ) {p : Papers} {r : Option Papers} → r ≡ input_of bs → r ≡ Some p → (p.dossier + p.certificate + 1 ≡ length bs / 2) × (length bs ≤ 65536)
 unfolding Fills
-papers_fill bs d c e f = subst (Fills (length bs)) (sym e ∙ f) (input_fills bs)
+papers_fill bs e f = subst (Fills (length bs)) (sym e ∙ f) (input_fills bs)

@@ -1,24 +1,20 @@
 // What the programs read and write: bytes as words, and a reply as its line of text.
 #![tactic(auto)]
 
-ghost use Rattle.std.specs.Prelude.{◌≡◌, ◌+◌, ◌*◌, ◌/◌, ◌≤◌, ◌<◌, min, length};
+ghost use Rattle.std.specs.Prelude.{◌≡◌, ◌+◌, ◌*◌, ◌/◌, ◌≤◌, ◌<◌, min, length, take};
+ghost use Rattle.std.specs.Io.KnownBytes.{Consumes};
 ghost use Rattle.promise.specs.Place.{filled};
 ghost use Rattle.text.specs.Bytes.{word_at, whole, input_of};
 ghost use Rattle.text.specs.Line.{put, digits_of, name_of, refusal_of, reply_text, line_of, input_line};
 
 use reply::{Paper, Reply, Verdict};
+use std::io::Read;
 
-// What standard input holds: papers, so many words of the dossier and of the certificate; or nothing that can be judged.
-#[derive(Clone, Copy)]
-pub enum Input {
-    Bad,
-    Papers(usize, usize),
-}
-
-fn least(a: usize, b: usize) -> usize
-    ensures { result ≡ min a b }
-{
-    if a < b { a } else { b }
+// How many words standard input has for the dossier and for the certificate.
+#[derive(Clone, Copy, Debug, PartialEq, Eq)]
+pub struct Papers {
+    pub dossier: usize,
+    pub certificate: usize,
 }
 
 // Word i of the bytes, low byte first.
@@ -26,49 +22,56 @@ pub fn word_at(bytes: &[u8], i: usize) -> u16
     requires { 2 * i + 1 < length bytes.now }
     ensures { (result ≡ word_at bytes.now i) × (result < 65536) }
 {
-    let lo = bytes[2 * i];
-    let hi = bytes[2 * i + 1];
-    (lo as u16) + 256 * (hi as u16)
+    u16::from_le_bytes([bytes[2 * i], bytes[2 * i + 1]])
 }
 
 // Whether so many bytes may be read: a length word at least, 65,536 bytes at most, and no odd byte left.
 fn is_whole(n: usize) -> bool
     ensures { result ≡ whole n }
 {
-    if n < 2 {
-        return false;
-    }
-    if 65536 < n {
+    if n < 2 || 65536 < n {
         return false;
     }
     n % 2 == 0
 }
 
-// How many words the bytes have for the dossier, as their first word announces, and for the certificate.
-pub fn split(bytes: &[u8]) -> Input
+// Reads the input to the lent bytes until they are full, or nothing more comes. Answers how many bytes it got.
+pub fn read<R: Read>(input: &mut R, bytes: &mut [u8]) -> usize
+    ensures count { result ≤ length bytes.new }
+    ensures given { Consumes (R.remaining input.old) (R.remaining input.new) (take result bytes.new) }
+{
+    let mut done = 0;
+    while done < bytes.len() {
+        match input.read(&mut bytes[done..]) {
+            Ok(got) if got > 0 => done += got,
+            _ => return done,
+        }
+    }
+    done
+}
+
+// How many words the bytes have for the dossier, as their first word announces, and for the certificate; or they are nothing that can be judged.
+pub fn split(bytes: &[u8]) -> Option<Papers>
     ensures { result ≡ input_of bytes.now }
 {
     let n = bytes.len();
-    if is_whole(n) {
-        let d = word_at(bytes, 0) as usize;
-        let have = n / 2 - 1;
-        if d <= have {
-            return Input::Papers(d, have - d);
-        }
-        return Input::Bad;
+    if !is_whole(n) {
+        return None;
     }
-    Input::Bad
+    let dossier = usize::from(word_at(bytes, 0));
+    let certificate = (n / 2 - 1).checked_sub(dossier)?;
+    Some(Papers {
+        dossier,
+        certificate,
+    })
 }
 
 // Writes the words of the bytes from the table's start, as many as it has room for; the rest of the table stays.
 pub fn words(bytes: &[u8], table: &mut [u16])
     ensures { table.new ≡ filled (word_at bytes.now) (min (length bytes.now / 2) (length table.old)) table.old }
 {
-    let k = least(bytes.len() / 2, table.len());
-    let mut i = 0;
-    while i < k {
+    for i in 0..table.len().min(bytes.len() / 2) {
         table[i] = word_at(bytes, i);
-        i += 1;
     }
 }
 
@@ -77,20 +80,16 @@ pub fn write(piece: &[u8], out: &mut [u8], at: usize) -> usize
     requires { at + length piece.now ≤ length out.old }
     ensures { (out.new ≡ put out.old at piece.now) × (result ≡ at + length piece.now) }
 {
-    let n = piece.len();
-    let mut i = 0;
-    while i < n {
-        out[at + i] = piece[i];
-        i += 1;
-    }
-    at + n
+    let end = at + piece.len();
+    out[at..end].copy_from_slice(piece);
+    end
 }
 
 fn digit(d: usize) -> u8
     requires { d < 10 }
     ensures { result ≡ 48 + d }
 {
-    48 + (d as u8)
+    b'0' + (d as u8)
 }
 
 // Writes n in decimal from place `at` on, with at most so many digits as there is room; the rest of the table stays. Answers the place after it.
@@ -127,7 +126,7 @@ fn refusal(number: u16, paper: Paper, place: usize, count: usize, out: &mut [u8]
     ensures { (out.new ≡ put out.old 0 (refusal_of number paper place count)) × (result ≡ length (refusal_of number paper place count)) }
 {
     let a = write(b"REFUSED ", out, 0);
-    let b = digits(number as usize, 20, out, a);
+    let b = digits(usize::from(number), 20, out, a);
     let c = name(paper, out, b);
     let d = digits(place, 20, out, c);
     let e = write(b" ", out, d);
@@ -139,14 +138,10 @@ pub fn reply_text(reply: Reply, out: &mut [u8]) -> usize
     requires { 96 ≤ length out.old }
     ensures { (out.new ≡ put out.old 0 (reply_text reply)) × (result ≡ length (reply_text reply)) }
 {
-    let verdict = reply.verdict;
-    let paper = reply.paper;
-    let place = reply.place;
-    let count = reply.count;
-    match verdict {
+    match reply.verdict {
         Verdict::Opaque => write(b"OPAQUE", out, 0),
         Verdict::Detectable => write(b"DETECTABLE", out, 0),
-        Verdict::Refused(number) => refusal(number, paper, place, count, out),
+        Verdict::Refused(number) => refusal(number, reply.paper, reply.place, reply.count, out),
     }
 }
 

@@ -9,7 +9,7 @@ use lib.Dec.{eqb}
 use lib.ListN.{get_or, take}
 use Rattle.meaning.specs.Tests.{agree, named, choose, ◌is◌}
 use Rattle.meaning.specs.Policy.{Policy}
-use Rattle.meaning.specs.Papers.{Entry, Line, policy, answer}
+use Rattle.meaning.specs.Papers.{Entry, Dossier, Line, policy, answer}
 use Rattle.meaning.specs.Rules.{follows, earlier, line_follows}
 use Rattle.meaning.specs.Verdict.{tried, probe_agrees}
 use Rattle.promise.specs.Code.{bit}
@@ -17,10 +17,9 @@ use Rattle.promise.specs.Place.{Kind, many, place, Fit, Starts}
 use Rattle.promise.specs.Clause.{credential}
 use Rattle.promise.specs.Formula.{entry_at, entry_of, entry}
 use Rattle.promise.specs.Line.{literal, line_at, line_of, line, LineFits}
-use Rattle.promise.specs.Thing.{next_of}
+use Rattle.promise.specs.Thing.{entry_next, line_next}
 use Rattle.promise.specs.Layout.{dossier_at}
 use Rattle.promise.specs.declared.Layout.{Layout}
-use Rattle.promise.specs.declared.Thing.TheVariants as thing
 use Rattle.promise.proofs.Place.{many_at}
 use Rattle.promise.specs.declared.LineAt.{LineAt}
 use Rattle.reply.specs.Answer.{accepted}
@@ -69,8 +68,7 @@ module _ (d : List ℕ) (o : Layout) (probes told w : List ℕ) (k : ℕ) (s : P
 
 -- ---- a thing ends after it begins
 
-pub entry_ends : (ws : List ℕ) (p : ℕ) → p ≤ next_of thing.Entry ws p
-unfolding next_of
+pub entry_ends : (ws : List ℕ) (p : ℕ) → p ≤ entry_next ws p
 entry_ends ws p = omega arith
 
 place_after : (next : ℕ → ℕ) → ((q : ℕ) → q ≤ next q) → (p k : ℕ) → p ≤ place next p k
@@ -78,8 +76,7 @@ unfolding place
 place_after next f p zero = omega arith
 place_after next f p (suc k) = omega (arith, place_after next f p k, f (place next p k))
 
-pub line_ends : (ws : List ℕ) (p : ℕ) → p ≤ next_of thing.Line ws p
-unfolding next_of
+pub line_ends : (ws : List ℕ) (p : ℕ) → p ≤ line_next ws p
 line_ends ws p = let h = place_after (literal.next ws) (λ q. omega arith) (line_at ws p).literals (line_at ws p).count in omega (arith, h)
 
 -- ---- a line
@@ -99,26 +96,26 @@ module _ (s : List ℕ) {lines : List ℕ} {k : ℕ} (t : Starts (line.next s) 2
   pub first_starts : Starts (line.next s) 2 n lines
   first_starts = record { long = omega (arith, t.long); each = λ i g. t.each i (omega arith) }
 
-module _ (d : List ℕ) (o : Layout) (s lines : List ℕ) (k : ℕ) (t : Starts (line.next s) 2 k lines) (j : ℕ) (h : j < k) where
+module _ (D : Dossier) (s lines : List ℕ) (k : ℕ) (t : Starts (line.next s) 2 k lines) (j : ℕ) (h : j < k) where
   pub line_fits : Fit line s 2 k → LineFits s (get_or lines j 0)
   unfolding Fit
   line_fits f = rw (t.each j h) (f j h)
 
-  pub line_at_lem : {b : Bool} → b ≡ follows (dossier_at d o) (many line s 2 j) (line_of s (line_at s (get_or lines j 0))).literals (line_of s (line_at s (get_or lines j 0))).rule → b ≡ line_follows (dossier_at d o) (many line s 2 k) j
+  pub line_at_lem : {b : Bool} → b ≡ follows D (many line s 2 j) (line_of s (line_at s (get_or lines j 0))).literals (line_of s (line_at s (get_or lines j 0))).rule → b ≡ line_follows D (many line s 2 k) j
   unfolding line_follows named earlier
   line_at_lem {b} e =
       let q = t.each j h in
-      e ∙ ap (λ (p : ℕ). follows (dossier_at d o) (many line s 2 j) (line_of s (line_at s p)).literals (line_of s (line_at s p)).rule) q
-      ∙ ap (λ (l : List Line). follows (dossier_at d o) l (line_of s (line_at s (place (line.next s) 2 j))).literals (line_of s (line_at s (place (line.next s) 2 j))).rule) (sym (many_take line s 2 k j (omega arith)))
-      ∙ ap (λ (x : Option Line). named x (λ l. follows (dossier_at d o) (take j (many line s 2 k)) l.literals l.rule)) (sym (many_at line s 2 k j h))
+      e ∙ ap (λ (p : ℕ). follows D (many line s 2 j) (line_of s (line_at s p)).literals (line_of s (line_at s p)).rule) q
+      ∙ ap (λ (l : List Line). follows D l (line_of s (line_at s (place (line.next s) 2 j))).literals (line_of s (line_at s (place (line.next s) 2 j))).rule) (sym (many_take line s 2 k j (omega arith)))
+      ∙ ap (λ (x : Option Line). named x (λ l. follows D (take j (many line s 2 k)) l.literals l.rule)) (sym (many_at line s 2 k j h))
 
 -- ---- the last line: it is empty, or not
 
 module _ (s : List ℕ) (p : ℕ) {v : LineAt} (e : v ≡ line_at s p) {r : Reply} where
-  pub last_empty_lem : v.count ≡ 0 → r ≡ accepted said.Detectable → r ≡ choose ((line_at s p).count is 0) (accepted said.Detectable) (showing 17 paper.Certificate thing.Line s p)
+  pub last_empty_lem : v.count ≡ 0 → r ≡ accepted said.Detectable → r ≡ choose ((line_at s p).count is 0) (accepted said.Detectable) (showing 17 paper.Certificate line_next s p)
   unfolding choose ◌is◌
   last_empty_lem h g = rw (eq-eqb (line_at s p).count 0 (ap (λ (x : LineAt). x.count) (sym e) ∙ h)) g
 
-  pub last_left : (v.count ≡ 0 → ⊥) → r ≡ showing 17 paper.Certificate thing.Line s p → r ≡ choose ((line_at s p).count is 0) (accepted said.Detectable) (showing 17 paper.Certificate thing.Line s p)
+  pub last_left : (v.count ≡ 0 → ⊥) → r ≡ showing 17 paper.Certificate line_next s p → r ≡ choose ((line_at s p).count is 0) (accepted said.Detectable) (showing 17 paper.Certificate line_next s p)
   unfolding choose ◌is◌
   last_left h g = rw (ne_eqb (line_at s p).count 0 (λ z. h (ap (λ (x : LineAt). x.count) e ∙ z))) g

@@ -15,15 +15,14 @@ use Rattle.meaning.specs.Verdict.{judge}
 use Rattle.promise.specs.Code.{bit}
 use Rattle.promise.specs.Place.{many, filled, Fit}
 use Rattle.promise.specs.Formula.{entry}
-use Rattle.promise.specs.Line.{line}
+use Rattle.promise.specs.Line.{line, LineFits}
 use Rattle.promise.specs.Clause.{credential}
 use Rattle.promise.specs.Layout.{dossier_at, Laid, certificate_at, Proposed}
 use Rattle.promise.specs.declared.Proposal.{Proposal}
 use Rattle.promise.specs.declared.Proposal.TheVariants.{Witness, Proof}
 use Rattle.reply.specs.declared.Reply.{Reply}
-use Rattle.promise.specs.Thing.{next_of, ok_of, FitOf}
+use Rattle.promise.specs.Thing.{clause_next, ClauseOk, marked_next, MarkedOk, entry_next, EntryOk, line_next, Things}
 use Rattle.promise.specs.declared.Layout.{Layout}
-use Rattle.promise.specs.declared.Thing.TheVariants as thing
 use Rattle.promise.proofs.Place.{filled_at, filled_length, many_at, many_past}
 use Rattle.evaluation.specs.Which.{policy_at}
 use Rattle.evaluation.specs.Answer.{answer_of, answer_word}
@@ -33,20 +32,20 @@ use Rattle.lines.specs.Ready.{ProbeStarts}
 use Rattle.verdict.specs.Told.{reply_at, rounds_at, Says, size_of, Told}
 
 module _ (d : List ℕ) (o : Layout) (l : Laid d o) where
-  pub clauses_fit : FitOf thing.Clause d o.clauses o.nclauses
-  unfolding FitOf ok_of next_of Fit
+  pub clauses_fit : Things marked_next MarkedOk d o.clauses o.nclauses
+  unfolding Things Fit
   clauses_fit j h = (l.clauses j h).ends
 
-  pub creds_fit : FitOf thing.Credential d o.creds o.ncreds
-  unfolding FitOf ok_of next_of Fit
+  pub creds_fit : Things clause_next ClauseOk d o.creds o.ncreds
+  unfolding Things Fit
   creds_fit j h = (l.creds j h).ends
 
-  pub probes_fit : FitOf thing.Entry d o.probes o.nprobes
-  unfolding FitOf ok_of next_of Fit
+  pub probes_fit : Things entry_next EntryOk d o.probes o.nprobes
+  unfolding Things Fit
   probes_fit j h = (l.probes j h).ends
 
-pub lines_fit : (s : List ℕ) (k : ℕ) → Fit line s 2 k → FitOf thing.Line s 2 k
-unfolding FitOf ok_of next_of Fit
+pub lines_fit : (s : List ℕ) (k : ℕ) → Fit line s 2 k → Things line_next LineFits s 2 k
+unfolding Things Fit
 lines_fit s k f j h = f j h
 
 -- the secret's answer in the dossier's own policy is the aim, whatever the certificate

@@ -6,34 +6,29 @@ use Rattle.meaning.specs.Papers as papers
 use Rattle.meaning.specs.Verdict.{Outcome, opaque, detectable, probe_differs, secret_kept, line_fails, last_not_empty, about, round_in}
 use Rattle.promise.specs.Layout.{dossier_at}
 use Rattle.promise.specs.Place.{place, filled}
-use Rattle.promise.specs.Thing.{next_of}
+use Rattle.promise.specs.Thing.{entry_next, line_next}
 use Rattle.promise.specs.declared.Layout.{Layout}
 use Rattle.promise.specs.declared.Proposal.{Proposal}
 use Rattle.promise.specs.declared.Proposal.TheVariants.{Witness, Proof}
-use Rattle.promise.specs.declared.Thing.{Thing}
-use Rattle.promise.specs.declared.Thing.TheVariants.{Entry, Line}
 use Rattle.reply.specs.Answer.{accepted, refused}
 use Rattle.reply.specs.declared.Paper.{Paper}
 use Rattle.reply.specs.declared.Paper.TheVariants.{Dossier, Certificate}
 use Rattle.reply.specs.declared.Reply.{Reply}
 use Rattle.reply.specs.declared.Verdict.TheVariants.{Opaque, Detectable}
-use Rattle.evaluation.specs.Answer.{answer_word, round_of}
-use Rattle.evaluation.specs.declared.Which.TheVariants.{Tried}
-use Rattle.verdict.specs.declared.Fault.{Fault}
-use Rattle.verdict.specs.declared.Fault.TheVariants as fault
+use Rattle.evaluation.specs.Answer.{answer_word}
 
--- the refusal that shows the whole of the thing at p
-unfoldable pub showing : ℕ → Paper → Thing → List ℕ → ℕ → Reply
-showing e paper t ws p = refused e paper p (next_of t ws p - p)
+-- the refusal that shows the whole of the thing at p, after which comes the next
+unfoldable pub showing : ℕ → Paper → (List ℕ → ℕ → ℕ) → List ℕ → ℕ → Reply
+showing e paper next ws p = refused e paper p (next ws p - p)
 
 -- 14 "that probe in the dossier", 15 "the secret in the dossier", 16 and 17 "that line"; d and c are the papers' words, and a proof has k lines
 unfoldable pub reply_at : List ℕ → Layout → List ℕ → ℕ → Outcome → Reply
 reply_at d o c k opaque = accepted Opaque
 reply_at d o c k detectable = accepted Detectable
-reply_at d o c k (probe_differs j) = showing 14 Dossier Entry d (place (next_of Entry d) o.probes j)
-reply_at d o c k secret_kept = showing 15 Dossier Entry d o.secret
-reply_at d o c k (line_fails j) = showing 16 Certificate Line c (place (next_of Line c) 2 j)
-reply_at d o c k last_not_empty = showing 17 Certificate Line c (place (next_of Line c) 2 (k - 1))
+reply_at d o c k (probe_differs j) = showing 14 Dossier entry_next d (place (entry_next d) o.probes j)
+reply_at d o c k secret_kept = showing 15 Dossier entry_next d o.secret
+reply_at d o c k (line_fails j) = showing 16 Certificate line_next c (place (line_next c) 2 j)
+reply_at d o c k last_not_empty = showing 17 Certificate line_next c (place (line_next c) 2 (k - 1))
 
 -- The lent table t after an outcome (request A5), n being the number of atoms: "On 14 and 15 the words 0 to n - 1 of the lent table become these numbers"; "words beyond
 -- n stay. Every other reply leaves the table untouched."
@@ -54,16 +49,6 @@ pub record Says (d : List ℕ) (o : Layout) (c : List ℕ) (k : ℕ) (C : papers
 abbrev pub size_of : Proposal → ℕ
 size_of (Witness k) = k
 size_of (Proof k) = k
-
--- the lowest number at fault, as the code answers it
-unfoldable pub as_fault : Option ℕ → Fault
-as_fault none = fault.Nowhere
-as_fault (some j) = fault.At j
-
--- the lent table t after the search for a probe that a witness of k clauses, the words w, answers otherwise: "the words 0 to n - 1 of the lent table become these numbers"
-unfoldable pub rounds_there : List ℕ → Layout → List ℕ → ℕ → List ℕ → Fault → List ℕ → List ℕ
-rounds_there d o w k probes fault.Nowhere t = t
-rounds_there d o w k probes (fault.At j) t = filled (round_of d o w (Tried k) (get_or probes j 0)) o.atoms t
 
 -- a table that has the policy's answer to each probe
 pub record Told (d : List ℕ) (o : Layout) (told : List ℕ) : Type 0 where

@@ -1,47 +1,41 @@
 // The judgement of two sound papers.
 #![tactic(auto)]
 
-ghost use Rattle.std.specs.Prelude.{◌≡◌, not, ◌≤◌, ◌<◌, ◌-◌, length, get_or};
+ghost use Rattle.std.specs.Prelude.{◌≡◌, not, ◌≤◌, ◌<◌, ℕ, List, length, get_or};
 ghost use Rattle.meaning.specs.Tests.{◌is◌, agree, choose, lowest};
 ghost use Rattle.meaning.specs.Looks.{aim};
 ghost use Rattle.meaning.specs.Papers as papers;
 ghost use Rattle.meaning.specs.Verdict as meant;
+ghost use Rattle.meaning.specs.Rules.{line_follows};
 ghost use Rattle.promise.specs.Place.{many, Fit};
-ghost use Rattle.promise.specs.Clause.{credential};
 ghost use Rattle.promise.specs.Code.{bit};
 ghost use Rattle.promise.specs.Formula.{FormulaFits, entry_at};
 ghost use Rattle.promise.specs.Layout.{dossier_at, Laid, certificate_at, Proposed};
-ghost use Rattle.promise.specs.Line.{line_at, line};
-ghost use Rattle.promise.specs.declared.Thing.TheVariants as thing;
-ghost use Rattle.meaning.specs.Rules.{line_follows};
-ghost use Rattle.lines.specs.Ready as rules;
-ghost use Rattle.lines.specs.Ready.{ProbeStarts};
-ghost use Rattle.promise.specs.Thing.{next_of, ok_of};
+ghost use Rattle.promise.specs.Line.{line_at, line, LineFits};
+ghost use Rattle.promise.specs.Thing.{line_next};
+ghost use Rattle.promise.specs.declared.Layout as declared;
 ghost use Rattle.evaluation.specs.Held.{read_in};
-ghost use Rattle.evaluation.specs.Which.{Ready};
-ghost use Rattle.evaluation.specs.declared.Which.TheVariants.{Tried};
+ghost use Rattle.evaluation.specs.Policy.{ProbeStarts};
+ghost use Rattle.lines.specs.Supposing.{untold};
+ghost use Rattle.lines.specs.Ready.{LineStarts};
 ghost use Rattle.reply.specs.Answer.{accepted};
+ghost use Rattle.reply.specs.Numbers.{number};
 ghost use Rattle.reply.specs.declared.Paper.TheVariants as paper;
 ghost use Rattle.reply.specs.declared.Verdict.TheVariants as verdict;
-ghost use Rattle.verdict.specs.Told.{showing, reply_at, Says, size_of, as_fault, rounds_there, Told};
+ghost use Rattle.verdict.specs.Told.{showing, reply_at, Says, size_of, Told};
+ghost use Rattle.verdict.specs.Trial.{OnTrial, dossier_on, witness_on, rounds_there};
 
-use evaluation::Which;
-use promise::{Layout, Proposal, Thing};
-use reply::{Paper, Reply, Verdict};
-
-// The lowest number at fault, if there is one.
-#[derive(Clone, Copy)]
-pub enum Fault {
-    Nowhere,
-    At(usize),
-}
+use evaluation::{PolicyAt, Which};
+use lines::{Earlier, Grounds, Line};
+use promise::{ClauseAt, EntryAt, Layout, LineAt, MarkedAt, Proposal, Thing};
+use reply::{Fault, Paper, Reply, Verdict};
 
 // An acceptance.
 fn accepting(verdict: Verdict) -> Reply
     ensures { result ≡ accepted verdict }
 {
     Reply {
-        verdict: verdict,
+        verdict,
         paper: Paper::Certificate,
         place: 0,
         count: 0,
@@ -49,16 +43,15 @@ fn accepting(verdict: Verdict) -> Reply
 }
 
 // The refusal that shows the thing at p.
-fn refusing(number: u16, paper: Paper, thing: Thing, s: &[u16], p: usize) -> Reply
-    requires { ok_of thing s.now p × (p ≤ next_of thing s.now p) }
-    ensures { result ≡ showing number paper thing s.now p }
+fn refusing<T: Thing>(fault: Fault, paper: Paper, s: &[u16], p: usize) -> Reply
+    requires { T.ok s.now p × (p ≤ T.next s.now p) }
+    ensures { result ≡ showing (number fault) paper T.next s.now p }
 {
-    let q = promise::next_at(s, p, thing);
     Reply {
-        verdict: Verdict::Refused(number),
-        paper: paper,
+        verdict: Verdict::Refused(u16::from(fault)),
+        paper,
         place: p,
-        count: q - p,
+        count: T::next_at(s, p) - p,
     }
 }
 
@@ -67,175 +60,150 @@ fn probe_agrees(d: &[u16], told: &[u16], i: usize, p: usize, table: &[u8]) -> bo
     requires { (i < length told.now) × ((entry_at d.now p).next ≤ length d.now) × FormulaFits (length table.now) 16 d.now (entry_at d.now p).formula }
     ensures { result ≡ (bit (read_in d.now p table.now) is get_or told.now i 0) }
 {
-    let a = evaluation::answer_in(d, p, table);
-    evaluation::word_of(a) == told[i]
+    u16::from(evaluation::answer_in(d, p, table)) == told[i]
 }
 
-// The lowest probe that the policy tried does not answer as the dossier's does. If there is one, the table gets the number of the round that
-// first adds each atom there.
-fn first_differing(
-    d: &[u16],
-    o: Layout,
-    creds: &[usize],
-    probes: &[usize],
-    told: &[u16],
-    w: &[u16],
-    k: usize,
-    rounds: &mut [u16],
-) -> Fault
-    requires { Ready d.now o creds.now w.now (Tried k) × ProbeStarts d.now o probes.now × Told d.now o told.now × (o.atoms ≤ length rounds.old) }
-    ensures { (result ≡ as_fault (lowest (meant.probe_agrees (dossier_at d.now o) (many (credential o.atoms) w.now 2 k)) 0 o.nprobes))
-        × (rounds.new ≡ rounds_there d.now o w.now k probes.now result rounds.old) }
-{
-    let n = o.nprobes;
-    let m = o.atoms;
-    let mut held = [0u8; 64];
-    let mut i = 0;
-    while i < n {
-        let p = probes[i];
-        let last = evaluation::last_of(probes, i);
-        let t = evaluation::known(d, o, creds, w, Which::Tried(k), last, held, p);
-        if !probe_agrees(d, told, i, p, &t[..m]) {
-            evaluation::widen(&t[..m], rounds);
-            return Fault::At(i);
-        }
-        held = t;
-        i += 1;
-    }
-    Fault::Nowhere
-}
-
-// With every probe answered alike: the secret, which is not to have the value `goal` that it has in the dossier's policy.
-fn judge_secret(
-    d: &[u16],
-    o: Layout,
-    creds: &[usize],
+// What the dossier's own policy answers: where each probe begins, each probe's answer, and the secret's value.
+#[derive(Clone, Copy)]
+struct Answered<'a> {
+    probes: &'a [usize],
+    told: &'a [u16],
     goal: bool,
-    w: &[u16],
-    k: usize,
+}
+
+// The lowest probe that the policy tried for a witness of so many clauses does not answer as the dossier's does. If there is one, the table gets
+// the number of the round that first adds each atom there.
+fn first_differing(
+    tried: &PolicyAt,
+    count: usize,
+    answered: &Answered,
     rounds: &mut [u16],
-) -> Reply
-    requires { Ready d.now o creds.now w.now (Tried k) × (goal ≡ aim (dossier_at d.now o)) × (o.atoms ≤ length rounds.old) }
-    ensures { Says d.now o w.now k (papers.witness (many (credential o.atoms) w.now 2 k)) (choose
-        (agree (papers.answer (dossier_at d.now o) (meant.tried (dossier_at d.now o) (many (credential o.atoms) w.now 2 k)) (dossier_at d.now o).secret) (not (aim (dossier_at d.now o))))
+) -> Option<usize>
+    requires { OnTrial tried.now count answered.now.probes.now answered.now.told.now answered.now.goal × (tried.now.layout.atoms ≤ length rounds.old) }
+    ensures { (result ≡ untold (lowest (meant.probe_agrees (dossier_on tried.now) (witness_on tried.now count)) 0 tried.now.layout.nprobes))
+        × (rounds.new ≡ rounds_there tried.now.words tried.now.layout tried.now.witness count result rounds.old) }
+{
+    let n = tried.layout.atoms;
+    let mut kept = None;
+    for i in 0..tried.layout.nprobes {
+        let known = tried.known(kept, answered.probes[i]);
+        if !probe_agrees(
+            tried.words,
+            answered.told,
+            i,
+            answered.probes[i],
+            &known.table[..n],
+        ) {
+            evaluation::widen(&known.table[..n], rounds);
+            return Some(i);
+        }
+        kept = Some(known);
+    }
+    None
+}
+
+// With every probe answered alike: the secret, which is not to have the value that it has in the dossier's policy.
+fn judge_secret(tried: &PolicyAt, count: usize, answered: &Answered, rounds: &mut [u16]) -> Reply
+    requires { OnTrial tried.now count answered.now.probes.now answered.now.told.now answered.now.goal × (tried.now.layout.atoms ≤ length rounds.old) }
+    ensures { Says tried.now.words tried.now.layout tried.now.witness count (papers.witness (witness_on tried.now count)) (choose
+        (agree (papers.answer (dossier_on tried.now) (meant.tried (dossier_on tried.now) (witness_on tried.now count)) (dossier_on tried.now).secret) (not (aim (dossier_on tried.now))))
         meant.opaque meant.secret_kept) rounds.old result rounds.new }
 {
-    let p = o.secret;
-    if evaluation::answer_at(d, o, creds, w, Which::Tried(k), p) != goal {
+    let p = tried.layout.secret;
+    if tried.answer_at(p) != answered.goal {
         accepting(Verdict::Opaque)
     } else {
-        evaluation::rounds_at(d, o, creds, w, Which::Tried(k), p, rounds);
-        refusing(15, Paper::Dossier, Thing::Entry, d, p)
+        tried.rounds_at(p, rounds);
+        refusing::<EntryAt>(Fault::SecretKept, Paper::Dossier, tried.words, p)
     }
 }
 
-// A witness of k clauses.
-fn judge_witness(
-    d: &[u16],
-    o: Layout,
-    creds: &[usize],
-    probes: &[usize],
-    told: &[u16],
-    goal: bool,
-    w: &[u16],
-    k: usize,
-    rounds: &mut [u16],
-) -> Reply
-    requires { Ready d.now o creds.now w.now (Tried k) × ProbeStarts d.now o probes.now × Told d.now o told.now × (goal ≡ aim (dossier_at d.now o)) × (o.atoms ≤ length rounds.old) }
-    ensures { Says d.now o w.now k (papers.witness (many (credential o.atoms) w.now 2 k))
-        (meant.judge (dossier_at d.now o) (papers.witness (many (credential o.atoms) w.now 2 k))) rounds.old result rounds.new }
+// The reply to a witness of so many clauses, for which that policy is tried.
+fn judge_witness(tried: &PolicyAt, count: usize, answered: &Answered, rounds: &mut [u16]) -> Reply
+    requires { OnTrial tried.now count answered.now.probes.now answered.now.told.now answered.now.goal × (tried.now.layout.atoms ≤ length rounds.old) }
+    ensures { Says tried.now.words tried.now.layout tried.now.witness count (papers.witness (witness_on tried.now count))
+        (meant.judge (dossier_on tried.now) (papers.witness (witness_on tried.now count))) rounds.old result rounds.new }
 {
-    match first_differing(d, o, creds, probes, told, w, k, rounds) {
-        Fault::At(j) => refusing(14, Paper::Dossier, Thing::Entry, d, probes[j]),
-        Fault::Nowhere => judge_secret(d, o, creds, goal, w, k, rounds),
+    match first_differing(tried, count, answered, rounds) {
+        Some(j) => refusing::<EntryAt>(
+            Fault::ProbeDiffers,
+            Paper::Dossier,
+            tried.words,
+            answered.probes[j],
+        ),
+        None => judge_secret(tried, count, answered, rounds),
     }
 }
 
-// The lowest line that does not follow.
-fn first_failing(
-    d: &[u16],
-    o: Layout,
-    clauses: &[usize],
-    creds: &[usize],
-    probes: &[usize],
-    told: &[u16],
-    goal: bool,
-    s: &[u16],
-    lines: &[usize],
-    k: usize,
-) -> Fault
-    requires { rules.Ready d.now o clauses.now creds.now probes.now told.now goal × rules.LineStarts s.now k lines.now × Fit line s.now 2 k }
-    ensures { result ≡ as_fault (lowest (line_follows (dossier_at d.now o) (many line s.now 2 k)) 0 k) }
+// The lowest of k lines that does not follow; `starts` has where each begins.
+fn first_failing(grounds: &Grounds, s: &[u16], starts: &[usize], k: usize) -> Option<usize>
+    requires { LineStarts s.now k starts.now × Fit line s.now 2 k }
+    ensures { result ≡ untold (lowest (line_follows grounds.now (many line s.now 2 k)) 0 k) }
 {
-    let mut j = 0;
-    while j < k {
-        let q = lines[j];
-        if !lines::line_follows(d, o, clauses, creds, probes, told, goal, s, lines, j, q) {
-            return Fault::At(j);
+    for j in 0..k {
+        let before = Earlier {
+            words: s,
+            starts,
+            count: j,
+        };
+        let line = Line::at(s, starts[j]);
+        if !lines::line_follows(grounds, &before, &line) {
+            return Some(j);
         }
-        j += 1;
     }
-    Fault::Nowhere
+    None
 }
 
 // With every line following: the last, at p.
 fn judge_last(s: &[u16], p: usize) -> Reply
-    requires { ok_of thing.Line s.now p }
-    ensures { result ≡ choose ((line_at s.now p).count is 0) (accepted verdict.Detectable) (showing 17 paper.Certificate thing.Line s.now p) }
+    requires { LineFits s.now p }
+    ensures { result ≡ choose ((line_at s.now p).count is 0) (accepted verdict.Detectable) (showing 17 paper.Certificate line_next s.now p) }
 {
-    let v = promise::line_at(s, p);
-    if v.count == 0 {
+    if promise::line_at(s, p).count == 0 {
         accepting(Verdict::Detectable)
     } else {
-        refusing(17, Paper::Certificate, Thing::Line, s, p)
+        refusing::<LineAt>(Fault::LastNotEmpty, Paper::Certificate, s, p)
     }
 }
 
-// A proof of k lines; `lines` has room for where each begins.
-fn judge_proof(
-    d: &[u16],
-    o: Layout,
-    clauses: &[usize],
-    creds: &[usize],
-    probes: &[usize],
-    told: &[u16],
-    goal: bool,
-    s: &[u16],
-    lines: &mut [usize],
-    k: usize,
-) -> Reply
-    requires { rules.Ready d.now o clauses.now creds.now probes.now told.now goal × (k ≤ length lines.old) × Fit line s.now 2 k × (1 ≤ k) × (k ≤ 1024) }
-    ensures { result ≡ reply_at d.now o s.now k (meant.judge (dossier_at d.now o) (papers.proof (many line s.now 2 k))) }
+// A proof of k lines, for which there is room.
+fn judge_proof<const ROOM: usize>(grounds: &Grounds, s: &[u16], k: usize) -> Reply
+    requires { (1 ≤ k) × (k ≤ ROOM) × (ROOM ≤ 1024) × Fit line s.now 2 k }
+    ensures { (d : List ℕ) (o : declared.Layout) → result ≡ reply_at d o s.now k (meant.judge grounds.now (papers.proof (many line s.now 2 k))) }
 {
-    promise::starts(s, 2, k, Thing::Line, lines);
-    match first_failing(d, o, clauses, creds, probes, told, goal, s, lines, k) {
-        Fault::At(j) => refusing(16, Paper::Certificate, Thing::Line, s, lines[j]),
-        Fault::Nowhere => judge_last(s, lines[k - 1]),
+    let mut starts = [0usize; ROOM];
+    promise::starts::<LineAt>(s, 2, &mut starts[..k]);
+    match first_failing(grounds, s, &starts, k) {
+        Some(j) => refusing::<LineAt>(Fault::LineFails, Paper::Certificate, s, starts[j]),
+        None => judge_last(s, starts[k - 1]),
     }
 }
 
-// The proof of k lines, with what only a proof needs; `goal` is the value that the secret has in the dossier's policy, which it is to show. A short proof has a short table for its lines.
-fn judge_lines(
-    d: &[u16],
-    o: Layout,
-    creds: &[usize],
-    probes: &[usize],
-    told: &[u16],
-    goal: bool,
-    s: &[u16],
-    k: usize,
-) -> Reply
-    requires { Laid d.now o × rules.CredStarts d.now o creds.now × ProbeStarts d.now o probes.now × Told d.now o told.now × (goal ≡ aim (dossier_at d.now o)) × (1 ≤ k) × (k ≤ 1024) × Fit line s.now 2 k }
-    ensures { result ≡ reply_at d.now o s.now k (meant.judge (dossier_at d.now o) (papers.proof (many line s.now 2 k))) }
+// The proof of k lines in the certificate's words, with what only a proof needs; it is to show the value that the secret has in the dossier's policy.
+// A short proof has a short table for its lines.
+fn judge_lines(own: &PolicyAt, answered: &Answered, k: usize) -> Reply
+    requires { ProbeStarts own.now answered.now.probes.now × Told own.now.words own.now.layout answered.now.told.now × (answered.now.goal ≡ aim (dossier_on own.now)) × (1 ≤ k) × (k ≤ 1024) × Fit line own.now.witness 2 k }
+    ensures { result ≡ reply_at own.now.words own.now.layout own.now.witness k (meant.judge (dossier_on own.now) (papers.proof (many line own.now.witness 2 k))) }
 {
     let mut clauses = [0usize; 128];
-    promise::starts(d, o.clauses, o.nclauses, Thing::Clause, &mut clauses);
+    promise::starts::<MarkedAt>(
+        own.words,
+        own.layout.clauses,
+        &mut clauses[..own.layout.nclauses],
+    );
+    let grounds = Grounds {
+        words: own.words,
+        layout: own.layout,
+        clauses: &clauses,
+        creds: own.creds,
+        probes: answered.probes,
+        answers: answered.told,
+        goal: answered.goal,
+    };
     if k <= 64 {
-        let mut short = [0usize; 64];
-        return judge_proof(d, o, &clauses, creds, probes, told, goal, s, &mut short, k);
+        return judge_proof::<64>(&grounds, own.witness, k);
     }
-    let mut lines = [0usize; 1024];
-    judge_proof(d, o, &clauses, creds, probes, told, goal, s, &mut lines, k)
+    judge_proof::<1024>(&grounds, own.witness, k)
 }
 
 // The judgement of two sound papers: d has the layout o, and c has that proposal. `told` is blank, then has the dossier's answers, and `goal` the secret's.
@@ -247,13 +215,33 @@ pub fn judge_sound(d: &[u16], o: Layout, c: &[u16], proposal: Proposal, rounds: 
 {
     let mut creds = [0usize; 32];
     let mut probes = [0usize; 64];
-    let blank = [0u16; 64];
-    let mut told = blank;
-    promise::starts(d, o.creds, o.ncreds, Thing::Credential, &mut creds);
-    promise::starts(d, o.probes, o.nprobes, Thing::Entry, &mut probes);
-    let goal = evaluation::own_answers(d, o, &creds, &probes, c, &mut told);
+    let mut told = [0u16; 64];
+    promise::starts::<ClauseAt>(d, o.creds, &mut creds[..o.ncreds]);
+    promise::starts::<EntryAt>(d, o.probes, &mut probes[..o.nprobes]);
+    let own = PolicyAt {
+        words: d,
+        layout: o,
+        creds: &creds,
+        witness: c,
+        which: Which::Own,
+    };
+    let goal = own.own_answers(&probes, &mut told);
+    let answered = Answered {
+        probes: &probes,
+        told: &told,
+        goal,
+    };
     match proposal {
-        Proposal::Witness(k) => judge_witness(d, o, &creds, &probes, &told, goal, c, k, rounds),
-        Proposal::Proof(k) => judge_lines(d, o, &creds, &probes, &told, goal, c, k),
+        Proposal::Witness(count) => {
+            let tried = PolicyAt {
+                words: d,
+                layout: o,
+                creds: &creds,
+                witness: c,
+                which: Which::Tried(count),
+            };
+            judge_witness(&tried, count, &answered, rounds)
+        }
+        Proposal::Proof(k) => judge_lines(&own, &answered, k),
     }
 }

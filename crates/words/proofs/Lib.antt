@@ -1,3 +1,4 @@
 pub mod Steps
 pub mod Promise
 pub mod Parts
+pub mod Sections

@@ -1,16 +1,12 @@
 -- A section that is read as the part from p on: what the reader finds there is what the whole has, p further on.
 use Prim.Native.Nat.{ℕ, ◌+◌, ◌-◌, ◌≤◌}
-use mathlib.Core.Path.{◌≡◌, sym, ap, ◌∙◌}
+use mathlib.Core.Path.{◌≡◌, ap, ◌∙◌}
 use mathlib.Core.List.{List, ◌++◌}
 use native.Mathlib.Omega.{arith}
 use lib.ListN.{length, take, drop, length-drop}
 use lib.Seq.{take_all, drop-drop}
-use Rattle.words.specs.Out.{Out, got, bad, moved, after}
-use Rattle.words.specs.Answer.{as_step}
-use Rattle.words.specs.declared.Step.{Step}
-use Rattle.words.specs.declared.Step.TheVariants.{Next, Refused}
-use Rattle.words.proofs.Steps.{refused, passed, step_bad, step_got}
-use Rattle.words.proofs.Promise.{Spans, OK, fine, none, In, in_got, in_bad, bad_in, got_in, Reads}
+use Rattle.words.specs.Out.{Out, got, moved, after}
+use Rattle.words.proofs.Promise.{Spans, OK, fine, none, In, in_got, in_bad, Reads}
 
 -- the part from p on, as the code takes it, is the rest
 pub take_rest : (ws : List ℕ) (p : ℕ) → take (length ws - p) (drop p ws) ≡ drop p ws
@@ -21,31 +17,9 @@ unfolding moved
 in_moved ws p h (in_got {p = q} i) = let z : p + q ≤ length ws = omega (arith, length-drop p ws) in in_got z
 in_moved ws p h (in_bad {p = q} {w = w} i) = let z : p + q + w ≤ length ws = omega (arith, length-drop p ws) in in_bad z
 
-module _ {A : Type 0} {r : List ℕ → ℕ → Out A} (inside : (ws : List ℕ) (at : ℕ) → at ≤ length ws → In (length ws) (r ws at)) (ws : List ℕ) (p : ℕ) (h : p ≤ length ws) where
-  pub in_after : In (length ws) (after r ws p)
-  unfolding after
-  in_after = in_moved ws p h (inside (drop p ws) 0 (omega arith))
-
-  -- what was found in the part
-  pub after_bad : {e q w : ℕ} → r (take (length ws - p) (drop p ws)) 0 ≡ bad e q w → (p + q ≤ length ws) × (after r ws p ≡ bad e (p + q) w)
-  unfolding after moved
-  after_bad {e} {q} {w} g =
-      let b : after r ws p ≡ bad e (p + q) w = ap (λ l. moved p (r l 0)) (sym (take_rest ws p)) ∙ ap (moved p) g in
-      (omega (arith, bad_in in_after b), b)
-
-  pub after_got : {v : A} {q : ℕ} → r (take (length ws - p) (drop p ws)) 0 ≡ got v q → (p + q ≤ length ws) × (after r ws p ≡ got v (p + q))
-  unfolding after moved
-  after_got {v} {q} g =
-      let b : after r ws p ≡ got v (p + q) = ap (λ l. moved p (r l 0)) (sym (take_rest ws p)) ∙ ap (moved p) g in
-      (got_in in_after b, b)
-
-  -- the same of the answer on the part
-  module _ {a : Step} (is : a ≡ as_step (r (take (length ws - p) (drop p ws)) 0)) where
-    pub part_refused : {e q w : ℕ} → a ≡ Refused e q w → (p + q ≤ length ws) × (as_step (after r ws p) ≡ Refused e (p + q) w)
-    part_refused g = let b = after_bad (refused _ is g) in (b.0, step_bad b.1)
-
-    pub part_passed : {q : ℕ} → a ≡ Next q → (p + q ≤ length ws) × (as_step (after r ws p) ≡ Next (p + q))
-    part_passed g = let b = after_got (passed _ is g).1 in (b.0, step_got b.1)
+pub in_after : {A : Type 0} {r : List ℕ → ℕ → Out A} → ((ws : List ℕ) (at : ℕ) → at ≤ length ws → In (length ws) (r ws at)) → (ws : List ℕ) (p : ℕ) → p ≤ length ws → In (length ws) (after r ws p)
+unfolding after
+in_after inside ws p h = in_moved ws p h (inside (drop p ws) 0 (omega arith))
 
 -- the promise of a reader holds of the reader of the part that begins at the place
 pub reads_after : {A : Type 0} {r : List ℕ → ℕ → Out A} {code : A → List ℕ} {Form : A → Type 0} → Reads r code Form → Reads (after r) code Form

@@ -12,10 +12,8 @@ use lib.ListN.{length, get_or, take, drop, length-append, length-drop}
 use lib.Seq.{drop-cons, drop-drop, take-append_seam, drop-append_seam}
 use borrow.Author.Tests.{lt-ltb, le-leb, ltb-true, leb-true}
 use Rattle.words.specs.Out.{Out, got, bad, then, made, need, present, word}
-use Rattle.words.specs.Read.{ranged, in_range, next, rising, listed, times, section}
+use Rattle.words.specs.Read.{Range, Any, Below, ranged, in_range, next, rising, listed, times, section}
 use Rattle.words.specs.Code.{code_list, code_all, code_many, RisingFrom}
-use Rattle.words.specs.declared.Range.{Range}
-use Rattle.words.specs.declared.Range.TheVariants.{Any, Below}
 
 -- THE WORDS: those from `at` up to p are `code`
 pub record Spans (ws : List ℕ) (at : ℕ) (code : List ℕ) (p : ℕ) : Type 0 where
@@ -74,6 +72,10 @@ ok_need false e at k = none
 pub ok_more : {A : Type 0} {P Q : A → ℕ → Type 0} {o : Out A} → OK P o → ((u : A) (q : ℕ) → P u q → Q u q) → OK Q o
 ok_more (fine h) k = fine (k _ _ h)
 ok_more none k = none
+
+pub anything : {A : Type 0} (o : Out A) → OK (λ v q. Unit {0}) o
+anything (got v q) = fine tt
+anything (bad e q w) = none
 
 pub ok_word : (ws : List ℕ) (at : ℕ) → OK (λ x p. Spans ws at (x ∷ []) p) (word ws at)
 ok_word ws at = go (ltb at (length ws)) refl

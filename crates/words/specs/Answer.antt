@@ -1,33 +1,48 @@
--- The code's answers: what was decoded is forgotten, the refusal is kept whole.
-use Rattle.std.specs.Prelude.{ℕ, ◌+◌, Bool, true, false, ltb}
+-- The code's answers: of what was decoded they keep what the caller goes on with, of a refusal all.
+use Rattle.std.specs.Prelude.{ℕ, ◌+◌, ◌≤◌, List, length, Option, Some, None, Result, Ok, Err}
+use Rattle.reply.specs.declared.Fault.{Fault}
+use Rattle.reply.specs.declared.Fault.TheVariants as fault
+use Rattle.reply.specs.declared.Refusal.{Refusal}
+use Rattle.reply.specs.Numbers.{number, fault_of}
 use Rattle.words.specs.Out.{Out, got, bad}
-use Rattle.words.specs.declared.Step.{Step}
-use Rattle.words.specs.declared.Step.TheVariants.{Next, Refused}
-use Rattle.words.specs.declared.Got.{Got}
-use Rattle.words.specs.declared.Got.TheVariants.{Word, Stop}
-use Rattle.words.specs.declared.Range.{Range}
-use Rattle.words.specs.declared.Range.TheVariants.{Any, Below}
-use Rattle.words.specs.declared.Tested.{Tested}
-use Rattle.words.specs.declared.Tested.TheVariants.{Inside, Outside}
+use Rattle.words.specs.Read.{Range, Any, Below}
+use Rattle.words.specs.declared.Limit.{Limit}
 
-unfoldable pub as_step : {A : Type 0} → Out A → Step
-as_step (got v p) = Next p
-as_step (bad e p w) = Refused e p w
+-- the refusal with that number, place and count of words
+abbrev pub refusal : ℕ → ℕ → ℕ → Refusal
+refusal e p w = record { fault = fault_of e; place = p; count = w }
 
-unfoldable pub as_got : Out ℕ → Got
-as_got (got v p) = Word v
-as_got (bad e p w) = Stop e p w
+-- the refusal that shows the one word at a place
+abbrev pub at_word : Fault → ℕ → Refusal
+at_word f p = record { fault = f; place = p; count = 1 }
+
+-- 1: a word is needed and the paper has ended
+abbrev pub at_end : List ℕ → Refusal
+at_end ws = record { fault = fault.Ended; place = length ws; count = 0 }
+
+-- what the code answers: what `tell` says of the value that was read and of the place after it, or the refusal
+unfoldable pub answer : {A B : Type 0} → (A → ℕ → B) → Out A → Result B Refusal
+answer tell (got v p) = Ok (tell v p)
+answer tell (bad e p w) = Err (refusal e p w)
+
+-- the place after what was read
+abbrev pub as_step : {A : Type 0} → Out A → Result ℕ Refusal
+as_step o = answer (λ v p. p) o
+
+-- the word that was read
+abbrev pub as_got : Out ℕ → Result ℕ Refusal
+as_got o = answer (λ v p. v) o
 
 -- a word of a rising list, told by the least that the one after it may be
-unfoldable pub as_low : Out ℕ → Got
-as_low (got v p) = Word (v + 1)
-as_low (bad e p w) = Stop e p w
+abbrev pub as_low : Out ℕ → Result ℕ Refusal
+as_low o = answer (λ v p. v + 1) o
 
--- a word against the range of a list, as `in_range` tests it
-abbrev pub or_outside : Bool → ℕ → Tested
-or_outside true e = Inside
-or_outside false e = Outside e
+-- the range of a list's words, as the code says it
+abbrev pub range_of : Option Limit → Range
+range_of None = Any
+range_of (Some l) = Below l.below (number l.fault)
 
-unfoldable pub tested : Range → ℕ → Tested
-tested Any x = Inside
-tested (Below hi e) x = or_outside (ltb x hi) e
+-- the place after what was read, or the words that the refusal shows, lie within l words
+abbrev pub Within : ℕ → Result ℕ Refusal → Type 0
+Within l (Ok p) = p ≤ l
+Within l (Err r) = r.place + r.count ≤ l

@@ -1,14 +1,16 @@
 -- "A word is tested for presence, then range, then rising order."
 use Rattle.std.specs.Prelude.{ℕ, zero, suc, ◌+◌, List, [], ◌∷◌, ltb, leb}
 use Rattle.words.specs.Out.{Out, got, then, need, made, word}
-use Rattle.words.specs.declared.Range.{Range}
-use Rattle.words.specs.declared.Range.TheVariants.{Any, Below}
 
 -- a word that is at least lo and below hi; else refusal e
 unfoldable pub ranged : ℕ → ℕ → ℕ → List ℕ → ℕ → Out ℕ
 ranged lo hi e ws at = then (word ws at) (λ x p. need (leb lo x) e at (need (ltb x hi) e at (got x p)))
 
 -- the range of a list's words: any word, or those below hi, else refusal e
+pub data Range : Type 0 where
+  Any : Range
+  Below : ℕ → ℕ → Range
+
 abbrev pub in_range : {A : Type 0} → Range → ℕ → ℕ → Out A → Out A
 in_range Any x at o = o
 in_range (Below hi e) x at o = need (ltb x hi) e at o

@@ -1,127 +1,99 @@
-// Words, and rising lists of them, read at a position: what every reader of a paper shares.
+// Words, rising lists of them, and sections of items, read at a position: what every reader of a paper shares.
 #![tactic(auto)]
 
-ghost use Rattle.std.specs.Prelude.{◌≡◌, length};
+mod item;
+
+ghost use Rattle.std.specs.Prelude.{◌≡◌, ◌<◌, length, IfOk};
+ghost use Rattle.reply.specs.Numbers.{number};
 ghost use Rattle.words.specs.Read.{ranged, next, rising, listed};
-ghost use Rattle.words.specs.Answer.{as_step, as_got, as_low, tested};
-ghost use Rattle.words.specs.declared.Got.TheVariants.{Stop};
+ghost use Rattle.words.specs.Answer.{as_step, as_got, as_low, range_of, at_word, at_end};
 
-// The next position, or the refusal: its number, its place, and how many words it shows.
-#[derive(Clone, Copy)]
-pub enum Step {
-    Next(usize),
-    Refused(u16, usize, usize),
+pub use item::{Item, Section, last_section, section_after};
+use reply::{Fault, Refusal};
+use std::ops::Range;
+
+// What the words of a list have to be below, and what is wrong with one that is not.
+#[derive(Clone, Copy, Debug, PartialEq, Eq)]
+pub struct Limit {
+    pub below: usize,
+    pub fault: Fault,
 }
 
-// A word that was read, or the refusal.
-#[derive(Clone, Copy)]
-pub enum Got {
-    Word(usize),
-    Stop(u16, usize, usize),
-}
-
-// What the words of a list may be: any, or those below a limit, with the refusal's number for the others.
-#[derive(Clone, Copy)]
-pub enum Range {
-    Any,
-    Below(usize, u16),
-}
-
-// 1: a word is needed and the paper has ended.
-fn ended(s: &[u16]) -> Got
-    ensures { result ≡ Stop 1 (length s.now) 0 }
+// The refusal that shows the one word at the place.
+pub fn at_word(fault: Fault, place: usize) -> Refusal
+    ensures { result ≡ at_word fault place }
 {
-    Got::Stop(1, s.len(), 0)
+    Refusal {
+        fault,
+        place,
+        count: 1,
+    }
 }
 
-// The word at `at`, which is to be at least lo and below hi; else refusal e.
-pub fn word_in(s: &[u16], at: usize, lo: usize, hi: usize, e: u16) -> Got
-    ensures { result ≡ as_got (ranged lo hi e s.now at) }
+// A word is needed and the paper has ended: the refusal shows no word, at its end.
+pub fn at_end(s: &[u16]) -> Refusal
+    ensures { result ≡ at_end s.now }
+{
+    Refusal {
+        fault: Fault::Ended,
+        place: s.len(),
+        count: 0,
+    }
+}
+
+// The word at `at`, which is to be in the range; else a refusal with the fault.
+pub fn word_in(s: &[u16], at: usize, range: Range<usize>, fault: Fault) -> Result<usize, Refusal>
+    ensures { (result ≡ as_got (ranged range.start range.end (number fault) s.now at)) × IfOk result (λ x. at < length s.now) }
 {
     if s.len() <= at {
-        return ended(s);
+        return Err(at_end(s));
     }
     let x = s[at] as usize;
-    if x < lo {
-        return Got::Stop(e, at, 1);
+    if !range.contains(&x) {
+        return Err(at_word(fault, at));
     }
-    if hi <= x {
-        return Got::Stop(e, at, 1);
-    }
-    Got::Word(x)
+    Ok(x)
 }
 
-// Whether a word lies in the range, and if not, the refusal's number.
-#[derive(Clone, Copy)]
-enum Tested {
-    Inside,
-    Outside(u16),
-}
-
-// The test of one word against the range.
-fn in_range(range: Range, x: usize) -> Tested
-    ensures { result ≡ tested range x }
-{
-    match range {
-        Range::Any => Tested::Inside,
-        Range::Below(hi, e) => {
-            if x < hi {
-                Tested::Inside
-            } else {
-                Tested::Outside(e)
-            }
-        }
-    }
-}
-
-// The word at p, which is to be in the range and at least low; told by the least that the word after it may be.
-fn next_word(s: &[u16], p: usize, low: usize, range: Range) -> Got
-    ensures { result ≡ as_low (next range low s.now p) }
+// The word at p, which is to be within the limit and at least low; told by the least that the word after it may be.
+fn next_word(s: &[u16], p: usize, low: usize, limit: Option<Limit>) -> Result<usize, Refusal>
+    ensures { result ≡ as_low (next (range_of limit) low s.now p) }
 {
     if s.len() <= p {
-        return ended(s);
+        return Err(at_end(s));
     }
     let x = s[p] as usize;
-    match in_range(range, x) {
-        Tested::Outside(e) => {
-            return Got::Stop(e, p, 1);
+    if let Some(limit) = limit {
+        if limit.below <= x {
+            return Err(at_word(limit.fault, p));
         }
-        Tested::Inside => {}
     }
     if x < low {
-        return Got::Stop(4, p, 1);
+        return Err(at_word(Fault::NotRising, p));
     }
-    Got::Word(x + 1)
+    Ok(x + 1)
 }
 
-// k words from `at` on, each in the range, strictly rising.
-pub fn rising_words(s: &[u16], at: usize, k: usize, range: Range) -> Step
-    ensures { result ≡ as_step (rising range 0 k s.now at) }
+// k words from `at` on, each within the limit, strictly rising: the place after them.
+pub fn rising_words(s: &[u16], at: usize, k: usize, limit: Option<Limit>) -> Result<usize, Refusal>
+    ensures { result ≡ as_step (rising (range_of limit) 0 k s.now at) }
 {
-    let mut left = k;
-    let mut low: usize = 0;
-    let mut p = at;
-    while 0 < left {
-        match next_word(s, p, low, range) {
-            Got::Stop(e, q, w) => {
-                return Step::Refused(e, q, w);
-            }
-            Got::Word(x) => {
-                low = x;
-            }
-        }
-        p += 1;
-        left -= 1;
+    let mut low = 0;
+    for i in 0..k {
+        low = next_word(s, at + i, low, limit)?;
     }
-    Step::Next(p)
+    Ok(at + k)
 }
 
-// A list: a count that is at least lo and below hi, and so many words.
-pub fn list_at(s: &[u16], at: usize, lo: usize, hi: usize, range: Range) -> Step
-    ensures { result ≡ as_step (listed lo hi range s.now at) }
+// A list: a count in the range, and so many words; the place after them.
+pub fn list_at(
+    s: &[u16],
+    at: usize,
+    counts: Range<usize>,
+    limit: Option<Limit>,
+) -> Result<usize, Refusal>
+    ensures { result ≡ as_step (listed counts.start counts.end (range_of limit) s.now at) }
 {
-    match word_in(s, at, lo, hi, 2) {
-        Got::Stop(e, p, w) => Step::Refused(e, p, w),
-        Got::Word(k) => rising_words(s, at + 1, k, range),
-    }
+    let k = word_in(s, at, counts, Fault::Limits)?;
+    rising_words(s, at + 1, k, limit)
 }

@@ -15,8 +15,8 @@ pub returns-then-a-lt256 : goal.returns-then-a-lt256
 unfolding in_table
 returns-then-a-lt256 c = c.is_there.ensures ∙ (read_atom _ _ _ _ (view_fits _ _ _ c.entry_at-e.ensures c.requires.1) c.word-a.ensures.0 (in_table _) c.if-a-lt256.true).0 ∙ read_view _ _ _ c.entry_at-e.ensures
 
-pub truth_at-v-requires : goal.truth_at-v-requires
-truth_at-v-requires c = view_fits _ _ _ c.entry_at-e.ensures c.requires.1
+pub value_at-holds-requires : goal.value_at-holds-requires
+value_at-holds-requires c = view_fits _ _ _ c.entry_at-e.ensures c.requires.1
 
 pub returns : goal.returns
-returns c = c.truth_at-v.ensures.0 ∙ read_view _ _ _ c.entry_at-e.ensures
+returns c = c.value_at-holds.ensures.0 ∙ read_view _ _ _ c.entry_at-e.ensures

@@ -1,4 +1,4 @@
--- `evaluation::fire` meets its contract: the head is looked for, then the body, and the head is put in.
+-- `evaluation::fire` meets its contract: in each arm the tests say whether the head is put in.
 use Rattle.evaluation.proofs.Firing.{fire_there, fire_yes, fire_no}
 use Rattle.evaluation.proofs.fire.Goals as goal
 use Rattle.evaluation.proofs.fire.Goals.{else-not-is_there-via-then-not-is_there+else-body_holds, else-not-is_there-via-else-not-is_there}

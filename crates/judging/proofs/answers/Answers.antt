@@ -7,13 +7,13 @@ use Rattle.judging.proofs.answers.Goals as goal
 pub answers_with-requires : goal.answers_with-requires
 answers_with-requires c =
     let a = c.args in
-    dossier_sound_lem a.dossier.now c.dossier.ensures c.in-Sound.is
+    dossier_sound_lem a.dossier.now c.dossier.ensures c.in-Ok.is
 
-pub returns-in-Refused : goal.returns-in-Refused
-returns-in-Refused c =
+pub returns-in-Err : goal.returns-in-Err
+returns-in-Err c =
     let a = c.args in
     λ w. kept_row a.dossier.now a.table.now w
-    (answers_refused a.dossier.now a.table.now (dossier_refused a.dossier.now c.dossier.ensures c.in-Refused.is) c.refused.ensures)
+    (answers_refused a.dossier.now a.table.now (dossier_refused a.dossier.now c.dossier.ensures c.in-Err.is) c.refused.ensures)
 
-pub returns-in-Sound : goal.returns-in-Sound
-returns-in-Sound c = λ w. kept_row _ _ w c.answers_with.ensures
+pub returns-in-Ok : goal.returns-in-Ok
+returns-in-Ok c = λ w. kept_row _ _ w c.answers_with.ensures

@@ -5,13 +5,13 @@ use Rattle.judging.proofs.Sound.{dossier_sound_lem, dossier_refused}
 use Rattle.judging.proofs.judge.Goals as goal
 
 pub judge_with-requires : goal.judge_with-requires
-judge_with-requires c = dossier_sound_lem c.args.dossier.now c.dossier.ensures c.in-Sound.is
+judge_with-requires c = dossier_sound_lem c.args.dossier.now c.dossier.ensures c.in-Ok.is
 
-pub returns-in-Refused : goal.returns-in-Refused
-returns-in-Refused c =
+pub returns-in-Err : goal.returns-in-Err
+returns-in-Err c =
     let a = c.args in
     replied_row a.dossier.now a.certificate.now a.rounds.now
-    (judge_refused a.dossier.now a.certificate.now a.rounds.now (dossier_refused a.dossier.now c.dossier.ensures c.in-Refused.is) c.refused.ensures)
+    (judge_refused a.dossier.now a.certificate.now a.rounds.now (dossier_refused a.dossier.now c.dossier.ensures c.in-Err.is) c.refused.ensures)
 
-pub returns-in-Sound : goal.returns-in-Sound
-returns-in-Sound c = replied_row _ _ _ c.judge_with.ensures
+pub returns-in-Ok : goal.returns-in-Ok
+returns-in-Ok c = replied_row _ _ _ c.judge_with.ensures

@@ -6,9 +6,9 @@ use Rattle.judging.proofs.judge_with.Goals as goal
 pub judge_papers-requires : goal.judge_papers-requires
 judge_papers-requires c =
     let a = c.args in
-    (c.requires, certificate_sound_lem a.o.atoms a.o.ncreds a.c.now c.certificate.ensures c.in-Sound.is)
+    (c.requires, certificate_sound_lem a.o.atoms a.o.ncreds a.c.now c.certificate.ensures c.in-Ok.is)
 
-pub returns-in-Refused : goal.returns-in-Refused
-returns-in-Refused c =
+pub returns-in-Err : goal.returns-in-Err
+returns-in-Err c =
     let a = c.args in
-    judge_unsound a.d.now a.c.now a.rounds.now a.o c.requires (certificate_refused a.o.atoms a.o.ncreds a.c.now c.certificate.ensures c.in-Refused.is) c.refused.ensures
+    judge_unsound a.d.now a.c.now a.rounds.now a.o c.requires (certificate_refused a.o.atoms a.o.ncreds a.c.now c.certificate.ensures c.in-Err.is) c.refused.ensures

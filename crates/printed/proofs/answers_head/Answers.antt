@@ -2,10 +2,10 @@
 use Rattle.printed.specs.Lists.{answers_head}
 use Rattle.printed.proofs.answers_head.Goals as goal
 
-pub returns-in-Count : goal.returns-in-Count
+pub returns-in-Ok : goal.returns-in-Ok
 unfolding answers_head
-returns-in-Count c = rw c.in-Count.is (c.headed.ensures.0, c.headed.ensures.1)
+returns-in-Ok c = rw c.in-Ok.is (c.headed.ensures.0, c.headed.ensures.1)
 
-pub returns-in-Refused : goal.returns-in-Refused
+pub returns-in-Err : goal.returns-in-Err
 unfolding answers_head
-returns-in-Refused c = rw c.in-Refused.is c.reply_text.ensures
+returns-in-Err c = rw c.in-Err.is c.reply_text.ensures

@@ -6,4 +6,4 @@ use Rattle.printed.proofs.spaced_word.Goals as goal
 
 pub returns : goal.returns
 unfolding spaced
-returns c = placed_more c.args.out.now c.args.at (omega (arith, c.requires)) _ _ c.write-p.ensures c.digits.ensures
+returns c = placed_more c.args.out.now c.args.at (omega (arith, c.requires)) _ _ c.write-p.ensures (rw c.from.ensures at c.digits.ensures)

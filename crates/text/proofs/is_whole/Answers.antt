@@ -1,13 +1,15 @@
--- `text::is_whole` meets its contract: a law for each of its three answers.
+-- `text::is_whole` meets its contract.
 use native.Mathlib.Omega.{arith}
 use Rattle.text.proofs.Sizes.{whole_short, whole_long, whole_even}
 use Rattle.text.proofs.is_whole.Goals as goal
+use Rattle.text.proofs.is_whole.Goals.{then-n-lt2-via-then-n-lt2, then-n-lt2-via-else-n-lt2+then-n-gt65536}
 
 pub returns-then-n-lt2 : goal.returns-then-n-lt2
-returns-then-n-lt2 c = whole_short _ c.if-n-lt2.true
-
-pub returns-then-n-gt65536 : goal.returns-then-n-gt65536
-returns-then-n-gt65536 c = whole_long _ (omega arith) c.if-n-gt65536.true
+returns-then-n-lt2 c =
+    elim c.then-n-lt2.branch [
+      | then-n-lt2-via-then-n-lt2 w ↦ whole_short _ w.if-n-lt2.true
+      | then-n-lt2-via-else-n-lt2+then-n-gt65536 w ↦ whole_long _ (omega arith) w.if-n-gt65536.true
+    ]
 
 pub returns : goal.returns
 returns c = whole_even _ (omega arith) (omega arith)

@@ -1,21 +1,24 @@
 -- `verdict::judge_lines` meets its contract: it fills the table of the clauses, and either table has room for the lines.
-use Rattle.lines.proofs.Tables.{clauses_filled}
+use Rattle.promise.proofs.Place.{front_things}
+use Rattle.lines.proofs.Tables.{clauses_begin}
 use Rattle.verdict.proofs.Tables.{clauses_fit, rules_ready}
 use Rattle.verdict.proofs.judge_lines.Goals as goal
 
 pub starts-requires : goal.starts-requires
 starts-requires c =
-    let a = c.args in
-    (clauses_fit a.d.now a.o c.requires.0, c.requires.0.few_clauses)
+    let laid = c.own.invariant.laid in
+    front_things _ _ _ _ _ _ laid.few_clauses (clauses_fit _ _ laid)
 
-pub judge_proof-requires : goal.judge_proof-requires
-judge_proof-requires c =
-    let a = c.args in
-    let pre = c.requires in
-    (rules_ready a.d.now a.o a.told.now pre.3 pre.0 (clauses_filled a.d.now a.o _ c.starts.ensures pre.0.few_clauses) pre.1 pre.2 pre.4, c.if-k-le64.true, pre.7, pre.5, pre.6)
+pub invariant_of-grounds : goal.invariant_of-grounds
+invariant_of-grounds c =
+    let D = c.own.inside in
+    let own = c.own.invariant in
+    let pre = rw (← c.own.view_is) at c.requires in
+    rules_ready D.words.now D.layout c.args.answered.now.told.now pre.1 own.laid (clauses_begin D.words.now D.layout _ own.laid.few_clauses c.starts.ensures) own.starts pre.0 pre.2
 
-pub judge_proof-requires-2 : goal.judge_proof-requires-2
-judge_proof-requires-2 c =
-    let a = c.args in
-    let pre = c.requires in
-    (rules_ready a.d.now a.o a.told.now pre.3 pre.0 (clauses_filled a.d.now a.o _ c.starts.ensures pre.0.few_clauses) pre.1 pre.2 pre.4, pre.6, pre.7, pre.5, pre.6)
+pub invariant_of-grounds-2 : goal.invariant_of-grounds-2
+invariant_of-grounds-2 c =
+    let D = c.own.inside in
+    let own = c.own.invariant in
+    let pre = rw (← c.own.view_is) at c.requires in
+    rules_ready D.words.now D.layout c.args.answered.now.told.now pre.1 own.laid (clauses_begin D.words.now D.layout _ own.laid.few_clauses c.starts.ensures) own.starts pre.0 pre.2

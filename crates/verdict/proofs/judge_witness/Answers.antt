@@ -1,36 +1,41 @@
 -- `verdict::judge_witness` meets its contract.
 use native.Mathlib.Omega.{arith}
 use borrow.Author.Rules.{scaled_Fits}
-use Rattle.promise.specs.Thing.{ok_of}
-use Rattle.evaluation.proofs.Entry.{probe_fits}
+use Rattle.evaluation.proofs.Entry.{probe_there}
 use Rattle.verdict.proofs.Outcome.{probe_below, witness_differs, witness_alike}
 use Rattle.verdict.proofs.Papers.{entry_ends}
 use Rattle.verdict.proofs.judge_witness.Goals as goal
 
-pub offset_bounds-probes-j : goal.offset_bounds-probes-j
-offset_bounds-probes-j c =
-    let a = c.args in
-    let h = probe_below a.d.now a.o a.w.now a.k c.first_differing.ensures.0 c.in-At.is in
-    scaled_Fits _ 64 8 (omega (arith, c.requires.0.laid.few)) (omega arith)
+pub offset_bounds-answered-j : goal.offset_bounds-answered-j
+offset_bounds-answered-j c =
+    let D = c.tried.inside in
+    let first = rw (← c.tried.view_is) at c.first_differing.ensures in
+    let h = probe_below D.words.now D.layout D.witness.now c.args.count first.0 c.in-Some.is in
+    scaled_Fits _ 64 8 (omega (arith, c.tried.invariant.laid.few)) (omega arith)
 
-pub bounds-probes-j : goal.bounds-probes-j
-bounds-probes-j c =
-    let a = c.args in
-    omega (arith, c.requires.1.long, probe_below a.d.now a.o a.w.now a.k c.first_differing.ensures.0 c.in-At.is)
+pub bounds-answered-j : goal.bounds-answered-j
+bounds-answered-j c =
+    let D = c.tried.inside in
+    let on = rw (← c.tried.view_is) at c.requires.0 in
+    let first = rw (← c.tried.view_is) at c.first_differing.ensures in
+    omega (arith, on.probes_at.long, probe_below D.words.now D.layout D.witness.now c.args.count first.0 c.in-Some.is)
 
 pub refusing-requires : goal.refusing-requires
-unfolding ok_of
 refusing-requires c =
-    let a = c.args in
-    let h = probe_below a.d.now a.o a.w.now a.k c.first_differing.ensures.0 c.in-At.is in
-    ((probe_fits a.d.now a.o a.probes.now c.requires.1 _ h c.requires.0.laid).ends, entry_ends _ _)
+    let D = c.tried.inside in
+    let on = rw (← c.tried.view_is) at c.requires.0 in
+    let first = rw (← c.tried.view_is) at c.first_differing.ensures in
+    ((probe_there c.tried.invariant on.probes_at _ (probe_below D.words.now D.layout D.witness.now c.args.count first.0 c.in-Some.is)).ends, entry_ends _ _)
 
-pub returns-in-At : goal.returns-in-At
-returns-in-At c =
+pub returns-in-Some : goal.returns-in-Some
+returns-in-Some c =
+    let D = c.tried.inside in
     let a = c.args in
-    witness_differs a.d.now a.o a.w.now a.k c.first_differing.ensures.0 a.probes.now c.requires.1 c.in-At.is c.refusing.ensures c.first_differing.ensures.1
+    let on = rw (← c.tried.view_is) at c.requires.0 in
+    let first = rw (← c.tried.view_is) at c.first_differing.ensures in
+    rw (← c.tried.view_is) (witness_differs D.words.now D.layout D.witness.now a.count first.0 a.answered.now.probes.now on.probes_at c.in-Some.is c.refusing.ensures first.1)
 
-pub returns-in-Nowhere : goal.returns-in-Nowhere
-returns-in-Nowhere c =
+pub returns-in-None : goal.returns-in-None
+returns-in-None c =
     let a = c.args in
-    witness_alike a.d.now a.o a.w.now a.k c.first_differing.ensures.0 a.probes.now c.in-Nowhere.is c.first_differing.ensures.1 c.judge_secret.ensures
+    witness_alike a.tried.now.words a.tried.now.layout a.tried.now.witness a.count c.first_differing.ensures.0 c.in-None.is c.first_differing.ensures.1 c.judge_secret.ensures

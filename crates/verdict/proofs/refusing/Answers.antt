@@ -1,13 +1,13 @@
 -- `verdict::refusing` meets its contract.
 use Prim.Native.Nat.{ℕ, ◌-◌}
+use mathlib.Core.Path.{ap₂}
 use Rattle.reply.specs.declared.Reply.{Reply}
 use Rattle.reply.specs.declared.Verdict.TheVariants as said
 use Rattle.verdict.specs.Told.{showing}
-use mathlib.Core.Path.{ap}
 use Rattle.verdict.proofs.refusing.Goals as goal
 
 pub returns : goal.returns
 unfolding showing
-returns c =
+returns g c =
     let a = c.args in
-    ap {B = Reply} (λ (q : ℕ). record { verdict = said.Refused a.number; paper = a.paper; place = a.p; count = q - a.p }) c.next_at-q.ensures
+    ap₂ {C = Reply} (λ (e q : ℕ). record { verdict = said.Refused e; paper = a.paper; place = a.p; count = q - a.p }) c.from.ensures c.next_at.ensures

@@ -1,14 +1,13 @@
 -- `words::list_at` meets its contract: the count is refused, or the words after it are read.
-use native.Mathlib.Omega.{arith}
-use mathlib.Core.Path.{sym}
-use Rattle.words.proofs.Steps.{stopped, read_word, listed_bad, listed_on}
+use mathlib.Core.Path.{◌∙◌}
+use Rattle.words.specs.Read.{listed}
+use Rattle.words.proofs.Steps.{kept, handed_on, read_word}
 use Rattle.words.proofs.list_at.Goals as goal
 
-pub overflow_add-at : goal.overflow_add-at
-overflow_add-at c = omega (arith, (read_word _ _ _ _ _ c.word_in.ensures c.in-Word.is).here)
+pub returns-in_err-k : goal.returns-in_err-k
+unfolding listed
+returns-in_err-k c = kept c.from_residual.ensures ∙ handed_on _ _ _ _ c.word_in.ensures.0 c.in_err-k.was
 
-pub returns-in-Stop : goal.returns-in-Stop
-returns-in-Stop c = sym (listed_bad _ _ _ _ _ (stopped _ c.word_in.ensures c.in-Stop.is))
-
-pub returns-in-Word : goal.returns-in-Word
-returns-in-Word c = rw (listed_on _ _ _ _ _ (read_word _ _ _ _ _ c.word_in.ensures c.in-Word.is).is) c.rising_words.ensures
+pub returns : goal.returns
+unfolding listed
+returns c = rw (read_word _ _ _ _ _ c.word_in.ensures.0 c.in_ok-k.was).is c.rising_words.ensures

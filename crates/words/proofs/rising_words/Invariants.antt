@@ -1,11 +1,13 @@
--- The invariant: what is left to read from p on answers as the whole does.
+-- The invariant: what is left to read from the place reached on answers as the whole does.
+use Prim.Native.Nat.{◌+◌, ◌-◌, ◌<◌, ◌≤◌}
 use mathlib.Core.Path.{◌≡◌}
+use lib.ListN.{length}
 use Rattle.words.specs.Read.{rising}
-use Rattle.words.specs.Answer.{as_step}
+use Rattle.words.specs.Answer.{as_step, range_of}
 use Rattle.words.proofs.rising_words.Given as goal
 
-abbrev pub invariant-loop-left : goal.invariant-loop-left
-invariant-loop-left l = as_step (rising l.range 0 l.k l.s l.at) ≡ as_step (rising l.range l.low l.left l.s l.p)
-
-abbrev pub decreases-loop-left : goal.decreases-loop-left
-decreases-loop-left l = l.left
+abbrev pub invariant-loop-i : goal.invariant-loop-i
+invariant-loop-i l = record {
+  within : 0 < l.i → l.at + l.i ≤ length l.s;
+  rest : as_step (rising (range_of l.limit) 0 l.k l.s l.at) ≡ as_step (rising (range_of l.limit) l.low (l.k - l.i) l.s (l.at + l.i));
+}

@@ -1,22 +1,14 @@
 -- `words::word_in` meets its contract: at each `return` the tests that led there say which case of `ranged` holds.
-use mathlib.Core.Path.{◌∙◌}
-use borrow.Author.Tests.{le-ltb, lt-ltb, le-leb, lt-leb}
-use Rattle.words.specs.Read.{ranged}
-use Rattle.words.specs.Answer.{as_got}
+use mathlib.Core.Path.{sym, ap, ◌∙◌}
+use Rattle.std.specs.Prelude.{Err}
+use Rattle.words.proofs.Steps.{answer_fault, answer_got, ranged_past, ranged_out, ranged_in}
 use Rattle.words.proofs.word_in.Goals as goal
 
 pub returns-then-s-at : goal.returns-then-s-at
-unfolding ranged as_got
-returns-then-s-at c = c.ended.ensures ∙ simp (le-ltb _ _ c.if-s-at.true)
+returns-then-s-at c = (ap Err c.at_end.ensures ∙ sym (answer_fault _ (ranged_past _ _ _ _ _ c.if-s-at.true)), tt)
 
-pub returns-then-x-lo : goal.returns-then-x-lo
-unfolding ranged as_got
-returns-then-x-lo c = simp (lt-ltb _ _ c.if-s-at.false, lt-leb _ _ c.if-x-lo.true)
-
-pub returns-then-hi-x : goal.returns-then-hi-x
-unfolding ranged as_got
-returns-then-hi-x c = simp (lt-ltb _ _ c.if-s-at.false, le-leb _ _ c.if-x-lo.false, le-ltb _ _ c.if-hi-x.true)
+pub returns-then-not-contains : goal.returns-then-not-contains
+returns-then-not-contains c = (ap Err c.at_word.ensures ∙ sym (answer_fault _ (ranged_out _ _ _ _ _ c.if-s-at.false c.if-not-contains.ensures.cases)), tt)
 
 pub returns : goal.returns
-unfolding ranged as_got
-returns c = simp (lt-ltb _ _ c.if-s-at.false, le-leb _ _ c.if-x-lo.false, lt-ltb _ _ c.if-hi-x.false)
+returns c = (sym (answer_got _ (ranged_in _ _ _ _ _ c.if-s-at.false c.if-not-contains.ensures.cases)), c.if-s-at.false)
