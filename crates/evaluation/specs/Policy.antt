@@ -2,8 +2,8 @@
 use Rattle.std.specs.Prelude.{ℕ, ◌+◌, ◌≤◌, ◌<◌, ◌≡◌, Bool, List, length, Option, None, Some}
 use Rattle.meaning.specs.Tests.{◌∈◌}
 use Rattle.meaning.specs.Policy as meant
-use Rattle.promise.specs.Place.{part, Starts}
-use Rattle.promise.specs.Formula.{entry_at, entry, EntryFits}
+use Rattle.promise.specs.Place.{part}
+use Rattle.promise.specs.Formula.{entry_at, EntryFits}
 use Rattle.promise.specs.declared.EntryAt.{EntryAt}
 use Rattle.evaluation.specs.Which.{policy_at, joined_at}
 use Rattle.evaluation.specs.Answer.{answer_of, round_of}
@@ -15,10 +15,6 @@ use Rattle.evaluation.specs.declared.Kept.{Kept}
 pub record Asked (P : Posed) (e : EntryAt) : Type 0 where
   pub there : e.creds + e.count ≤ length P.words
   pub names : (x : ℕ) → x ∈ part P.words e.creds e.count → x < P.layout.ncreds
-
--- a table has where each probe of the dossier begins
-abbrev pub ProbeStarts : Posed → List ℕ → Type 0
-ProbeStarts P probes = Starts ((entry P.layout.atoms P.layout.ncreds).next P.words) P.layout.probes P.layout.nprobes probes
 
 -- its clauses, and those joined with the entry's credentials
 abbrev pub policy_in : Posed → meant.Policy

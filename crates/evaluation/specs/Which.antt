@@ -5,10 +5,10 @@ use Rattle.meaning.specs.Policy.{Clause, Policy}
 use Rattle.meaning.specs.Formula.{joined}
 use Rattle.meaning.specs.Papers.{Marked, policy}
 use Rattle.meaning.specs.Verdict.{tried}
-use Rattle.promise.specs.Place.{Kind, part, many, Fit, Starts}
+use Rattle.promise.specs.Place.{Kind, part, many, Fit}
 use Rattle.promise.specs.Clause.{clause_at, clause_of, ClauseFits, credential}
 use Rattle.promise.specs.Formula.{entry_of}
-use Rattle.promise.specs.Layout.{dossier_at, Laid}
+use Rattle.promise.specs.Layout.{dossier_at, Laid, CredStarts}
 use Rattle.promise.specs.declared.ClauseAt.{ClauseAt}
 use Rattle.promise.specs.declared.EntryAt.{EntryAt}
 use Rattle.promise.specs.declared.Layout.{Layout}
@@ -61,7 +61,7 @@ WhichFits n w (Tried j) = Fit (credential n) w 2 j
 
 pub record Ready (d : List ℕ) (o : Layout) (creds w : List ℕ) (which : Which) : Type 0 where
   pub laid : Laid d o
-  pub starts : Starts ((credential o.atoms).next d) o.creds o.ncreds creds
+  pub starts : CredStarts d o creds
   pub witness : WhichFits o.atoms w which
 
 pub record Sources (d : List ℕ) (o : Layout) (creds w : List ℕ) (which : Which) (e : EntryAt) : Type 0 where

@@ -9,13 +9,14 @@ ghost use Rattle.promise.specs.Place.{part, rows, filled};
 ghost use Rattle.promise.specs.Thing.{Things, clause_next, marked_next};
 ghost use Rattle.promise.specs.Formula.{FormulaFits, entry_at, entry_of, EntryFits};
 ghost use Rattle.promise.specs.Clause.{clause_of};
+ghost use Rattle.promise.specs.Layout.{ProbeStarts};
 ghost use Rattle.evaluation.specs.Table.{has, before, fire_one, fire_all, in_table};
 ghost use Rattle.evaluation.specs.Fired.{fired_all, ClauseFires, clause_fired, MarkedFires, marked_fired, named_end, NamedFires, named_fired};
 ghost use Rattle.evaluation.specs.Which.{Fires, Ready};
 ghost use Rattle.evaluation.specs.Posed.{Posed};
 ghost use Rattle.evaluation.specs.Answer.{answer_word};
 ghost use Rattle.evaluation.specs.Held.{read_in};
-ghost use Rattle.evaluation.specs.Policy.{policy_in, joined_in, table_in, answer_in_policy, round_in, Asked, ProbeStarts, Keeps, kept_at};
+ghost use Rattle.evaluation.specs.Policy.{policy_in, joined_in, table_in, answer_in_policy, round_in, Asked, Keeps, kept_at};
 ghost use Rattle.evaluation.specs.declared.Which.TheVariants.{Own};
 
 use promise::{ClauseAt, EntryAt, Layout, Valuation};
@@ -365,7 +366,7 @@ impl<'a> PolicyAt<'a> {
 
     // Writes every probe's answer in the dossier's own policy to the table. Answers what holds at the last probe, if there is one.
     fn answer_probes(&self, probes: &[usize], table: &mut [u16]) -> Option<Kept>
-        requires { (self.now.which ≡ Own) × ProbeStarts self.now probes.now × (self.now.layout.nprobes ≤ length table.old) }
+        requires { (self.now.which ≡ Own) × ProbeStarts self.now.words self.now.layout probes.now × (self.now.layout.nprobes ≤ length table.old) }
         ensures { (table.new ≡ filled (answer_word self.now.words self.now.layout) self.now.layout.nprobes table.old) × Keeps self.now result }
     {
         let n = self.layout.atoms;
@@ -380,7 +381,7 @@ impl<'a> PolicyAt<'a> {
 
     // Every probe's answer in the dossier's own policy, 0 or 1, from the table's start; the words beyond stay.
     pub fn answers(&self, probes: &[usize], table: &mut [u16])
-        requires { (self.now.which ≡ Own) × ProbeStarts self.now probes.now × (self.now.layout.nprobes ≤ length table.old) }
+        requires { (self.now.which ≡ Own) × ProbeStarts self.now.words self.now.layout probes.now × (self.now.layout.nprobes ≤ length table.old) }
         ensures { table.new ≡ filled (answer_word self.now.words self.now.layout) self.now.layout.nprobes table.old }
     {
         self.answer_probes(probes, table);
@@ -388,7 +389,7 @@ impl<'a> PolicyAt<'a> {
 
     // The same; and tells the secret's answer in the dossier's own policy.
     pub fn own_answers(&self, probes: &[usize], table: &mut [u16]) -> bool
-        requires { (self.now.which ≡ Own) × ProbeStarts self.now probes.now × (self.now.layout.nprobes ≤ length table.old) }
+        requires { (self.now.which ≡ Own) × ProbeStarts self.now.words self.now.layout probes.now × (self.now.layout.nprobes ≤ length table.old) }
         ensures { (table.new ≡ filled (answer_word self.now.words self.now.layout) self.now.layout.nprobes table.old) × (result ≡ answer_in_policy self.now self.now.layout.secret) }
     {
         let kept = self.answer_probes(probes, table);

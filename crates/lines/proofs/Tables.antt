@@ -7,7 +7,8 @@ use Rattle.promise.specs.Place.{place, rows}
 use Rattle.promise.specs.Thing.{clause_next, marked_next, entry_next, line_next}
 use Rattle.promise.specs.declared.Layout.{Layout}
 use Rattle.promise.proofs.Place.{front_starts}
-use Rattle.lines.specs.Ready.{ClauseStarts, CredStarts, ProbeStarts, LineStarts}
+use Rattle.promise.specs.Layout.{ClauseStarts, CredStarts, ProbeStarts}
+use Rattle.lines.specs.Ready.{LineStarts}
 
 module _ (ws : List ℕ) (o : Layout) (old : List ℕ) {t : List ℕ} where
   pub clauses_begin : o.nclauses ≤ length old → t ≡ rows (place (marked_next ws) o.clauses) (length (take o.nclauses old)) → ClauseStarts ws o (t ++ drop o.nclauses old)

@@ -6,22 +6,11 @@ use Rattle.meaning.specs.Papers.{Entry, policy, answer}
 use Rattle.meaning.specs.Looks.{aim}
 use Rattle.promise.specs.Code.{bit}
 use Rattle.promise.specs.Place.{Starts}
-use Rattle.promise.specs.Clause.{credential, marked}
-use Rattle.promise.specs.Formula.{entry}
 use Rattle.promise.specs.Line.{line}
-use Rattle.promise.specs.Layout.{dossier_at, Laid}
+use Rattle.promise.specs.Layout.{dossier_at, Laid, ClauseStarts, CredStarts, ProbeStarts}
 use Rattle.promise.specs.declared.Layout.{Layout}
 
--- a table has where each clause, each credential, each probe of the dossier begins, and each of the n lines before this one
-abbrev pub ClauseStarts : List ℕ → Layout → List ℕ → Type 0
-ClauseStarts d o t = Starts ((marked o.atoms).next d) o.clauses o.nclauses t
-
-abbrev pub CredStarts : List ℕ → Layout → List ℕ → Type 0
-CredStarts d o t = Starts ((credential o.atoms).next d) o.creds o.ncreds t
-
-abbrev pub ProbeStarts : List ℕ → Layout → List ℕ → Type 0
-ProbeStarts d o t = Starts ((entry o.atoms o.ncreds).next d) o.probes o.nprobes t
-
+-- a table has where each of the n lines before this one begins
 abbrev pub LineStarts : List ℕ → ℕ → List ℕ → Type 0
 LineStarts s n t = Starts (line.next s) 2 n t
 

@@ -3,7 +3,7 @@ use Rattle.std.specs.Prelude.{ℕ, ◌+◌, ◌≤◌, List, length}
 use Rattle.words.specs.Code.{code_list, code_many}
 use Rattle.meaning.specs.Papers.{Dossier, Certificate, witness, proof}
 use Rattle.promise.specs.Code.{code_marked, code_clause, code_entry}
-use Rattle.promise.specs.Place.{part, many, Fit}
+use Rattle.promise.specs.Place.{part, many, Fit, Starts}
 use Rattle.promise.specs.Clause.{credential, marked}
 use Rattle.promise.specs.Formula.{entry_at, entry_of, entry, EntryFits}
 use Rattle.promise.specs.Line.{line}
@@ -52,6 +52,16 @@ dossier_at ws o =
       probes = many (entry o.atoms o.ncreds) ws o.probes o.nprobes;
       secret = entry_of ws (entry_at ws o.secret);
     }
+
+-- a table has where each clause, each credential, each probe of the dossier begins
+abbrev pub ClauseStarts : List ℕ → Layout → List ℕ → Type 0
+ClauseStarts d o t = Starts ((marked o.atoms).next d) o.clauses o.nclauses t
+
+abbrev pub CredStarts : List ℕ → Layout → List ℕ → Type 0
+CredStarts d o t = Starts ((credential o.atoms).next d) o.creds o.ncreds t
+
+abbrev pub ProbeStarts : List ℕ → Layout → List ℕ → Type 0
+ProbeStarts d o t = Starts ((entry o.atoms o.ncreds).next d) o.probes o.nprobes t
 
 -- the words of each section are there
 pub record Laid (ws : List ℕ) (o : Layout) : Type 0 where

@@ -292,13 +292,16 @@ pub trait Valuation {
 
     ghost atoms: { Self → ℕ };
 
+    // The value of true.
     fn truth(&self) -> Self::Value
         ensures { result ≡ (reading self.now).always };
 
+    // The value of the atom x.
     fn atom(&self, x: usize) -> Self::Value
         requires { x < atoms self.now }
         ensures { result ≡ (reading self.now).atom x };
 
+    // The value of not, of and, of or, by those of their operands.
     fn negated(&self, a: Self::Value) -> Self::Value
         ensures { result ≡ (reading self.now).neg a };
 

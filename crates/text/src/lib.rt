@@ -85,6 +85,7 @@ pub fn write(piece: &[u8], out: &mut [u8], at: usize) -> usize
     end
 }
 
+// The digit d as a letter.
 fn digit(d: usize) -> u8
     requires { d < 10 }
     ensures { result ≡ 48 + d }

@@ -17,7 +17,7 @@ use Rattle.promise.specs.Clause.{credential}
 use Rattle.promise.specs.Formula.{entry}
 use Rattle.promise.specs.Line.{literal, line_at, line}
 use Rattle.promise.specs.Thing.{entry_next, line_next}
-use Rattle.promise.specs.Layout.{dossier_at}
+use Rattle.promise.specs.Layout.{dossier_at, ProbeStarts}
 use Rattle.promise.specs.declared.Layout.{Layout}
 use Rattle.promise.proofs.Place.{many_at, many_length}
 use Rattle.reply.specs.Answer.{accepted}
@@ -27,7 +27,6 @@ use Rattle.reply.specs.declared.Verdict.TheVariants as said
 use Rattle.evaluation.specs.Which.{policy_at, joined_at}
 use Rattle.evaluation.specs.Answer.{answer_of, round_of}
 use Rattle.evaluation.specs.declared.Which.TheVariants.{Tried}
-use Rattle.lines.specs.Ready.{ProbeStarts}
 use Rattle.lines.specs.Named.{told}
 use Rattle.lines.specs.Supposing.{untold}
 use Rattle.lines.proofs.Values.{told_untold}

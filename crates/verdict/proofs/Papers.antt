@@ -18,7 +18,7 @@ use Rattle.promise.specs.Clause.{credential}
 use Rattle.promise.specs.Formula.{entry_at, entry_of, entry}
 use Rattle.promise.specs.Line.{literal, line_at, line_of, line, LineFits}
 use Rattle.promise.specs.Thing.{entry_next, line_next}
-use Rattle.promise.specs.Layout.{dossier_at}
+use Rattle.promise.specs.Layout.{dossier_at, ProbeStarts}
 use Rattle.promise.specs.declared.Layout.{Layout}
 use Rattle.promise.proofs.Place.{many_at}
 use Rattle.promise.specs.declared.LineAt.{LineAt}
@@ -27,11 +27,12 @@ use Rattle.reply.specs.declared.Reply.{Reply}
 use Rattle.reply.specs.declared.Paper.TheVariants as paper
 use Rattle.reply.specs.declared.Verdict.TheVariants as said
 use borrow.Author.Tests.{eq-eqb, ne_eqb}
-use Rattle.evaluation.specs.Which.{policy_at}
+use Rattle.evaluation.specs.Which.{policy_at, Ready}
+use Rattle.evaluation.specs.Held.{read_in, table_of}
+use Rattle.evaluation.specs.declared.Which.{Which}
 use Rattle.evaluation.specs.Answer.{answer_of, answer_word}
 use Rattle.evaluation.specs.declared.Which.TheVariants.{Tried}
-use Rattle.evaluation.proofs.Entry.{probe_answer}
-use Rattle.lines.specs.Ready.{ProbeStarts}
+use Rattle.evaluation.proofs.Entry.{probe_answer, probe_says}
 use Rattle.verdict.specs.Told.{showing, Told}
 
 -- ---- a probe
@@ -65,6 +66,14 @@ module _ (d : List ℕ) (o : Layout) (probes told w : List ℕ) (k : ℕ) (s : P
   pub probe_told : {x : ℕ} {a : Bool} → x ≡ bit a → a ≡ answer_of d o w (Tried k) (get_or probes j 0) → eqb x (get_or told j 0) ≡ probe_agrees (dossier_at d o) (many (credential o.atoms) w 2 k) j
   unfolding W
   probe_told u v = ap₂ eqb (u ∙ ap bit (tried_answer v)) own_word ∙ bits_agree _ _ ∙ sym agrees_at
+
+-- by the table of what holds there
+pub probe_judged : {d : List ℕ} {o : Layout} {creds w probes told : List ℕ} {which : Which} {k : ℕ} → Ready d o creds w which → ProbeStarts d o probes → Told d o told → which ≡ Tried k
+    → (j : ℕ) → j < o.nprobes → {t : List ℕ} → t ≡ table_of d o w which (entry_at d (get_or probes j 0)) → {a : Bool} → a ≡ (bit (read_in d (get_or probes j 0) (take o.atoms t)) is get_or told j 0)
+    → a ≡ probe_agrees (dossier_at d o) (many (credential o.atoms) w 2 k) j
+unfolding ◌is◌
+probe_judged {d} {o} {creds} {w} {probes} {told} {which} {k} ready s t e j h found same =
+    same ∙ probe_told d o probes told w k s t j h refl (probe_says ready s j h found ∙ ap (λ (v : Which). answer_of d o w v (get_or probes j 0)) e)
 
 -- ---- a thing ends after it begins
 

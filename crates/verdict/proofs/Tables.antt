@@ -17,7 +17,7 @@ use Rattle.promise.specs.Place.{many, filled, Fit}
 use Rattle.promise.specs.Formula.{entry}
 use Rattle.promise.specs.Line.{line, LineFits}
 use Rattle.promise.specs.Clause.{credential}
-use Rattle.promise.specs.Layout.{dossier_at, Laid, certificate_at, Proposed}
+use Rattle.promise.specs.Layout.{dossier_at, Laid, certificate_at, Proposed, ClauseStarts, CredStarts, ProbeStarts}
 use Rattle.promise.specs.declared.Proposal.{Proposal}
 use Rattle.promise.specs.declared.Proposal.TheVariants.{Witness, Proof}
 use Rattle.reply.specs.declared.Reply.{Reply}
@@ -28,7 +28,6 @@ use Rattle.evaluation.specs.Which.{policy_at}
 use Rattle.evaluation.specs.Answer.{answer_of, answer_word}
 use Rattle.evaluation.specs.declared.Which.TheVariants.{Own}
 use Rattle.lines.specs.Ready as rules
-use Rattle.lines.specs.Ready.{ProbeStarts}
 use Rattle.verdict.specs.Told.{reply_at, rounds_at, Says, size_of, Told}
 
 module _ (d : List ℕ) (o : Layout) (l : Laid d o) where
@@ -83,7 +82,7 @@ module _ (d : List ℕ) (o : Layout) (table : List ℕ) (t : Told d o table) whe
       nothing : none ≡ some e → ⊥
       nothing z = let w : ◌≡◌ {A = ℕ} 0 1 = ap count z in omega arith
 
-  pub rules_ready : Laid d o → {a b c : List ℕ} → rules.ClauseStarts d o a → rules.CredStarts d o b → ProbeStarts d o c → {goal : Bool} → goal ≡ aim (dossier_at d o) → rules.Ready d o a b c table goal
+  pub rules_ready : Laid d o → {a b c : List ℕ} → ClauseStarts d o a → CredStarts d o b → ProbeStarts d o c → {goal : Bool} → goal ≡ aim (dossier_at d o) → rules.Ready d o a b c table goal
   rules_ready l u v w g = record { laid = l; clauses = u; creds = v; probes = w; long = t.long; told = λ j e h. told_by j e (ltb j o.nprobes) refl h; aimed = g }
 
 -- a witness's clauses and a proof's lines are there

@@ -6,11 +6,10 @@ use Rattle.meaning.specs.Looks.{aim}
 use Rattle.promise.specs.Place.{many, place, filled}
 use Rattle.promise.specs.Thing.{entry_next}
 use Rattle.promise.specs.Clause.{credential}
-use Rattle.promise.specs.Layout.{dossier_at}
+use Rattle.promise.specs.Layout.{dossier_at, ProbeStarts}
 use Rattle.promise.specs.declared.Layout.{Layout}
 use Rattle.evaluation.specs.Posed.{Posed}
 use Rattle.evaluation.specs.Answer.{round_of}
-use Rattle.evaluation.specs.Policy.{ProbeStarts}
 use Rattle.evaluation.specs.declared.Which.TheVariants.{Tried}
 use Rattle.verdict.specs.Told.{Told}
 
@@ -24,7 +23,7 @@ witness_on P count = many (credential P.layout.atoms) P.witness 2 count
 -- P is the policy tried for a witness of so many clauses; a table has where each probe begins, one the dossier's answers, and the goal is the secret's value
 pub record OnTrial (P : Posed) (count : ℕ) (probes told : List ℕ) (goal : Bool) : Type 0 where
   pub tried : P.which ≡ Tried count
-  pub probes_at : ProbeStarts P probes
+  pub probes_at : ProbeStarts P.words P.layout probes
   pub answers : Told P.words P.layout told
   pub aimed : goal ≡ aim (dossier_on P)
 

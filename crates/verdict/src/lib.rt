@@ -10,12 +10,11 @@ ghost use Rattle.meaning.specs.Rules.{line_follows};
 ghost use Rattle.promise.specs.Place.{many, Fit};
 ghost use Rattle.promise.specs.Code.{bit};
 ghost use Rattle.promise.specs.Formula.{FormulaFits, entry_at};
-ghost use Rattle.promise.specs.Layout.{dossier_at, Laid, certificate_at, Proposed};
+ghost use Rattle.promise.specs.Layout.{dossier_at, Laid, certificate_at, Proposed, ProbeStarts};
 ghost use Rattle.promise.specs.Line.{line_at, line, LineFits};
 ghost use Rattle.promise.specs.Thing.{line_next};
 ghost use Rattle.promise.specs.declared.Layout as declared;
 ghost use Rattle.evaluation.specs.Held.{read_in};
-ghost use Rattle.evaluation.specs.Policy.{ProbeStarts};
 ghost use Rattle.lines.specs.Supposing.{untold};
 ghost use Rattle.lines.specs.Ready.{LineStarts};
 ghost use Rattle.reply.specs.Answer.{accepted};
@@ -182,7 +181,7 @@ fn judge_proof<const ROOM: usize>(grounds: &Grounds, s: &[u16], k: usize) -> Rep
 // The proof of k lines in the certificate's words, with what only a proof needs; it is to show the value that the secret has in the dossier's policy.
 // A short proof has a short table for its lines.
 fn judge_lines(own: &PolicyAt, answered: &Answered, k: usize) -> Reply
-    requires { ProbeStarts own.now answered.now.probes.now × Told own.now.words own.now.layout answered.now.told.now × (answered.now.goal ≡ aim (dossier_on own.now)) × (1 ≤ k) × (k ≤ 1024) × Fit line own.now.witness 2 k }
+    requires { ProbeStarts own.now.words own.now.layout answered.now.probes.now × Told own.now.words own.now.layout answered.now.told.now × (answered.now.goal ≡ aim (dossier_on own.now)) × (1 ≤ k) × (k ≤ 1024) × Fit line own.now.witness 2 k }
     ensures { result ≡ reply_at own.now.words own.now.layout own.now.witness k (meant.judge (dossier_on own.now) (papers.proof (many line own.now.witness 2 k))) }
 {
     let mut clauses = [0usize; 128];

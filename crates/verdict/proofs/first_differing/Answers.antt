@@ -2,20 +2,18 @@
 use Prim.Native.Nat.{ℕ}
 use mathlib.Core.Path.{refl, sym, ap, ap₂, ◌∙◌}
 use native.Mathlib.Omega.{arith}
-use lib.ListN.{get_or}
-use Rattle.meaning.specs.Tests.{◌is◌}
 use Rattle.meaning.specs.Verdict.{probe_agrees}
 use Rattle.promise.specs.Clause.{credential}
 use Rattle.promise.specs.Layout.{dossier_at}
 use Rattle.promise.specs.Place.{many, filled}
-use Rattle.evaluation.specs.Answer.{answer_of, round_of}
+use Rattle.evaluation.specs.Answer.{round_of}
 use Rattle.evaluation.specs.declared.Kept.{Kept}
 use Rattle.evaluation.specs.declared.Which.{Which}
-use Rattle.evaluation.proofs.Entry.{probe_there, probe_reads, probe_says, probe_rounds, kept_none, kept_some}
+use Rattle.evaluation.proofs.Entry.{probe_there, probe_reads, probe_rounds, kept_none, kept_some}
 use Rattle.lines.specs.Supposing.{untold}
 use Rattle.verdict.specs.Trial.{rounds_there}
 use Rattle.verdict.proofs.Lowest.{from_start, from_next, from_fault, from_end}
-use Rattle.verdict.proofs.Papers.{probe_told}
+use Rattle.verdict.proofs.Papers.{probe_judged}
 use Rattle.verdict.proofs.first_differing.Goals as goal
 
 pub loop-i-init : goal.loop-i-init
@@ -37,7 +35,7 @@ probe_agrees-requires c =
     (omega (arith, on.answers.long), reads.0, reads.1)
 
 pub returns-then-not-probe_agrees : goal.returns-then-not-probe_agrees
-unfolding rounds_there ◌is◌
+unfolding rounds_there
 returns-then-not-probe_agrees c =
     let D = c.tried.inside in
     let i = c.loop-i.i in
@@ -45,15 +43,12 @@ returns-then-not-probe_agrees c =
     let before = rw (← c.tried.view_is) at c.loop-i.invariant in
     let kept = rw (← c.tried.view_is) at c.known-known.ensures in
     let found = ap (λ (k : Kept). k.table) kept in
-    let p = get_or c.args.answered.now.probes.now i 0 in
-    let said = probe_says c.tried.invariant on.probes_at i c.loop-i-test.true found ∙ ap (λ (v : Which). answer_of D.words.now D.layout D.witness.now v p) on.tried in
-    let same = c.probe_agrees.ensures ∙ probe_told D.words.now D.layout c.args.answered.now.probes.now c.args.answered.now.told.now D.witness.now c.args.count on.probes_at on.answers i c.loop-i-test.true refl said in
+    let same = probe_judged c.tried.invariant on.probes_at on.answers on.tried i c.loop-i-test.true found c.probe_agrees.ensures in
     let numbers = probe_rounds c.tried.invariant on.probes_at i c.loop-i-test.true found _ (rw c.loop-i.invariant.2 at c.widen.ensures) in
     let there = ap₂ (λ (v : Which) (q : ℕ). filled (round_of D.words.now D.layout D.witness.now v q) D.layout.atoms c.args.rounds.now) on.tried (on.probes_at.each i c.loop-i-test.true) in
     rw (← c.tried.view_is) (sym (ap untold (from_fault (probe_agrees (dossier_at D.words.now D.layout) (many (credential D.layout.atoms) D.witness.now 2 c.args.count)) D.layout.nprobes i before.0 c.loop-i-test.true (sym same ∙ c.if-not-probe_agrees.true))), numbers ∙ there)
 
 pub loop-i-preserved : goal.loop-i-preserved
-unfolding ◌is◌
 loop-i-preserved c =
     let D = c.tried.inside in
     let i = c.loop-i.i in
@@ -61,10 +56,8 @@ loop-i-preserved c =
     let before = rw (← c.tried.view_is) at c.loop-i.invariant in
     let kept = rw (← c.tried.view_is) at c.known-known.ensures in
     let found = ap (λ (k : Kept). k.table) kept in
-    let p = get_or c.args.answered.now.probes.now i 0 in
-    let said = probe_says c.tried.invariant on.probes_at i c.loop-i-test.true found ∙ ap (λ (v : Which). answer_of D.words.now D.layout D.witness.now v p) on.tried in
-    let same = c.probe_agrees.ensures ∙ probe_told D.words.now D.layout c.args.answered.now.probes.now c.args.answered.now.told.now D.witness.now c.args.count on.probes_at on.answers i c.loop-i-test.true refl said in
-    rw (← c.tried.view_is) (from_next (probe_agrees (dossier_at D.words.now D.layout) (many (credential D.layout.atoms) D.witness.now 2 c.args.count)) D.layout.nprobes i before.0 c.loop-i-test.true (sym same ∙ c.if-not-probe_agrees.false), kept_some _ p (probe_there c.tried.invariant on.probes_at i c.loop-i-test.true) kept, c.loop-i.invariant.2)
+    let same = probe_judged c.tried.invariant on.probes_at on.answers on.tried i c.loop-i-test.true found c.probe_agrees.ensures in
+    rw (← c.tried.view_is) (from_next (probe_agrees (dossier_at D.words.now D.layout) (many (credential D.layout.atoms) D.witness.now 2 c.args.count)) D.layout.nprobes i before.0 c.loop-i-test.true (sym same ∙ c.if-not-probe_agrees.false), kept_some _ _ (probe_there c.tried.invariant on.probes_at i c.loop-i-test.true) kept, c.loop-i.invariant.2)
 
 pub returns : goal.returns
 unfolding rounds_there
