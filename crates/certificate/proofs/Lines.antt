@@ -10,9 +10,10 @@ use lib.ListN.{length, get_or, drop, length-append}
 use borrow.Author.Tests.{ltb-true, lt-ltb, le-ltb}
 use Rattle.words.specs.Out.{got, bad, present, word}
 use Rattle.words.specs.Read.{ranged, times}
-use Rattle.words.specs.Answer.{answer, as_step, as_got}
+use Rattle.words.specs.Answer.{answer_by, as_step, as_got}
 use Rattle.words.specs.Code.{code_all, code_many}
 use Rattle.std.specs.Prelude.{Result, Ok, Err}
+use Rattle.reply.specs.declared.Fault.{Fault}
 use Rattle.reply.specs.declared.Refusal.{Refusal}
 use Rattle.words.proofs.Steps.{failed, stepped, step_made}
 use Rattle.words.proofs.Promise.{OK, ok_then, ok_made, ok_word, ok_more, In, in_got, in_bad, in_then, in_made, Spans, spans_join, lies, past, Reads, reads_as, reads_ranged, reads_times}
@@ -29,7 +30,7 @@ use Rattle.certificate.proofs.Literals.{reads_literals}
 -- ---- data words: so many are there, or the paper ends before
 
 pub data_there : (k : ℕ) (ws : List ℕ) (at : ℕ) → at + k ≤ length ws → as_step (times k word ws at) ≡ Ok (at + k)
-unfolding times answer
+unfolding times answer_by
 data_there zero ws at h = ap Ok (omega arith)
 data_there (suc k) ws at h =
     let i : at < length ws = omega arith in
@@ -37,7 +38,7 @@ data_there (suc k) ws at h =
     simp (lt-ltb _ _ i, step_made, data_there k ws (at + 1) (omega arith)) (ap Ok n)
 
 pub data_past : (k : ℕ) (ws : List ℕ) (at : ℕ) → at ≤ length ws → length ws < at + k → times k word ws at ≡ bad 1 (length ws) 0
-unfolding times answer
+unfolding times answer_by
 data_past zero ws at h g = absurd (omega arith)
 data_past (suc k) ws at h g = go (dec_lt at (length ws)) (data_past k ws (at + 1))
   where
@@ -48,19 +49,19 @@ data_past (suc k) ws at h g = go (dec_lt at (length ws)) (data_past k ws (at + 1
 -- ---- a line: each part is refused, or was read and the next answers for the rest
 
 module _ (n m : ℕ) (ws : List ℕ) (at : ℕ) where
-  module _ {rule k : ℕ} {s : Result ℕ Refusal} (a : ranged 1 9 12 ws at ≡ got rule (at + 1)) (c : k ≡ data_count rule) (d : s ≡ as_step (times k word ws (at + 1))) where
-    pub data_bad : {x : Refusal} → s ≡ Err x → Err x ≡ as_step (line n m ws at)
-    unfolding line answer
-    data_bad g = let b = failed _ (times k word ws (at + 1)) d g in rw (a, ← c, b.is) (ap Err b.told)
+  module _ {rule k : ℕ} {s : Result ℕ (Refusal Fault)} (a : ranged 1 9 12 ws at ≡ got rule (at + 1)) (c : k ≡ data_count rule) (d : s ≡ as_step (times k word ws (at + 1))) where
+    pub data_bad : {x : Refusal Fault} → s ≡ Err x → Err x ≡ as_step (line n m ws at)
+    unfolding line answer_by
+    data_bad g = let b = failed _ _ (times k word ws (at + 1)) d g in rw (a, ← c, b.is) (ap Err b.told)
 
     module _ {q : ℕ} (g : s ≡ Ok q) where
-      pub count_bad : {t : Result ℕ Refusal} {x : Refusal} → t ≡ as_got (ranged 0 9 2 ws q) → t ≡ Err x → Err x ≡ as_step (line n m ws at)
-      unfolding line answer
-      count_bad e h = let b = (stepped (times k word ws (at + 1)) d g).1 in let f = failed _ (ranged 0 9 2 ws q) e h in rw (a, ← c, b, f.is) (ap Err f.told)
+      pub count_bad : {t : Result ℕ (Refusal Fault)} {x : Refusal Fault} → t ≡ as_got (ranged 0 9 2 ws q) → t ≡ Err x → Err x ≡ as_step (line n m ws at)
+      unfolding line answer_by
+      count_bad e h = let b = (stepped _ (times k word ws (at + 1)) d g).1 in let f = failed _ _ (ranged 0 9 2 ws q) e h in rw (a, ← c, b, f.is) (ap Err f.told)
 
       pub line_on : {j p : ℕ} → ranged 0 9 2 ws q ≡ got j p → as_step (literals n m j [] ws p) ≡ as_step (line n m ws at)
       unfolding line
-      line_on h = let b = (stepped (times k word ws (at + 1)) d g).1 in rw (a, ← c, b, h) (sym (step_made _ _))
+      line_on h = let b = (stepped _ (times k word ws (at + 1)) d g).1 in rw (a, ← c, b, h) (sym (step_made _ _ _))
 
 -- ---- what the reader of data words promises: their presence alone is tested
 

@@ -9,9 +9,10 @@ use borrow.Author.Count.{below_more}
 use lib.ListN.{drop}
 use Rattle.words.specs.Out.{Out, got, bad, then, made, need}
 use Rattle.meaning.specs.Papers.{Literal}
-use Rattle.words.specs.Answer.{answer, as_step, at_word}
+use Rattle.words.specs.Answer.{answer_by, as_step, at_word}
 use Rattle.std.specs.Prelude.{Result, Ok, Err}
 use Rattle.reply.specs.declared.Fault.TheVariants as fault
+use Rattle.reply.specs.declared.Fault.{Fault}
 use Rattle.reply.specs.declared.Refusal.{Refusal}
 use Rattle.words.proofs.Steps.{failed, stepped, step_made, answer_got, answer_fault}
 use Rattle.words.proofs.Promise.{reads_got}
@@ -36,18 +37,18 @@ pub record Lit (n m : ℕ) (ws : List ℕ) (p q : ℕ) : Type 0 where
   pub next : q ≡ (seen.literal).next ws p
   pub ok : (seen.literal).ok ws p
 
-pub lit : (n m : ℕ) (ws : List ℕ) (p : ℕ) {r : Result ℕ Refusal} {q : ℕ} → r ≡ as_step (literal n m ws p) → r ≡ Ok q → Lit n m ws p q
+pub lit : (n m : ℕ) (ws : List ℕ) (p : ℕ) {r : Result ℕ (Refusal Fault)} {q : ℕ} → r ≡ as_step (literal n m ws p) → r ≡ Ok q → Lit n m ws p q
 lit n m ws p {q = q} f g =
-    let (l, e) = stepped (literal n m ws p) f g in
+    let (l, e) = stepped _ (literal n m ws p) f g in
     let s = (reads_got (reads_literal n m) e).0 in
     let v = literals_seen ws p l (drop q ws) s.words tt in
     record { is = rw v.that e; next = s.next ∙ sym v.next; ok = v.ok }
 
 -- one literal after those before: it is refused, and so are more of them; or it was read, and speaks of nothing new
 module _ (n m : ℕ) (before : List Literal) (ws : List ℕ) (p : ℕ) where
-  pub one_stop : {r : Result ℕ Refusal} {x : Refusal} → r ≡ as_step (literal n m ws p) → r ≡ Err x → Err x ≡ as_step (literals n m 1 before ws p)
-  unfolding literals answer
-  one_stop e g = let b = failed _ (literal n m ws p) e g in rw b.is (ap Err b.told)
+  pub one_stop : {r : Result ℕ (Refusal Fault)} {x : Refusal Fault} → r ≡ as_step (literal n m ws p) → r ≡ Err x → Err x ≡ as_step (literals n m 1 before ws p)
+  unfolding literals answer_by
+  one_stop e g = let b = failed _ _ (literal n m ws p) e g in rw b.is (ap Err b.told)
 
   module _ {l : Literal} {q : ℕ} (h : literal n m ws p ≡ got l q) {r : Bool} (e : r ≡ spoken l.said before) where
     pub one_twice : r ≡ true → Err (at_word fault.SaidTwice p) ≡ as_step (literals n m 1 before ws p)
@@ -55,11 +56,11 @@ module _ (n m : ℕ) (before : List Literal) (ws : List ℕ) (p : ℕ) where
     one_twice y = let z = sym e ∙ y in sym (answer_fault _ (rw (h, z)))
 
     pub one_on : r ≡ false → Ok q ≡ as_step (literals n m 1 before ws p)
-    unfolding literals answer
+    unfolding literals answer_by
     one_on y = let z = sym e ∙ y in rw (h, z)
 
-  one_bad : (j : ℕ) {x : Refusal} → as_step (literals n m 1 before ws p) ≡ Err x → as_step (literals n m (suc j) before ws p) ≡ Err x
-  unfolding literals answer
+  one_bad : (j : ℕ) {x : Refusal Fault} → as_step (literals n m 1 before ws p) ≡ Err x → as_step (literals n m (suc j) before ws p) ≡ Err x
+  unfolding literals answer_by
   one_bad j {x} h = go (literal n m ws p) h
     where
       tested : (l : Literal) (q : ℕ) (b : Bool) → as_step (need b 13 p (got (l ∷ []) q)) ≡ Err x → as_step (need b 13 p (made (λ ls. l ∷ ls) (literals n m j (before ++ (l ∷ [])) ws q))) ≡ Err x
@@ -72,7 +73,7 @@ module _ (n m : ℕ) (before : List Literal) (ws : List ℕ) (p : ℕ) where
       go (bad a q b) k = k
 
   one_passed : {q : ℕ} → as_step (literals n m 1 before ws p) ≡ Ok q → (l : Literal) × ((literal n m ws p ≡ got l q) × (spoken l.said before ≡ false))
-  unfolding literals answer
+  unfolding literals answer_by
   one_passed {q} h = go (literal n m ws p) refl h
     where
       tested : (l : Literal) (x : ℕ) → literal n m ws p ≡ got l x → (b : Bool) → spoken l.said before ≡ b → as_step (need (not b) 13 p (got (l ∷ []) x)) ≡ Ok q
@@ -101,26 +102,26 @@ module _ {n m at k : ℕ} {ws : List ℕ} where
 
   module _ {done p : ℕ} (s : State n m ws at k done p) where
     pub state_none : k ≤ done → as_step (literals n m k [] ws at) ≡ Ok p
-    unfolding literals answer
+    unfolding literals answer_by
     state_none h = let z : k - done ≡ 0 = omega arith in s.same ∙ rw z
 
     module _ (more : done < k) where
       at_least : k - done ≡ suc (k - (done + 1))
       at_least = omega arith
 
-      module _ {r : Result ℕ Refusal} (e : r ≡ as_step (literals n m 1 (many seen.literal ws at done) ws p)) where
-        pub state_bad : {x : Refusal} → r ≡ Err x → as_step (literals n m k [] ws at) ≡ Err x
+      module _ {r : Result ℕ (Refusal Fault)} (e : r ≡ as_step (literals n m 1 (many seen.literal ws at done) ws p)) where
+        pub state_bad : {x : Refusal Fault} → r ≡ Err x → as_step (literals n m k [] ws at) ≡ Err x
         state_bad h = s.same ∙ ap (λ (j : ℕ). as_step (literals n m j (many seen.literal ws at done) ws p)) at_least ∙ one_bad n m _ ws p _ (sym e ∙ h)
 
         pub state_on : {q : ℕ} → r ≡ Ok q → State n m ws at k (done + 1) q
         unfolding literals Fit
         state_on {q} h =
             let (l, (g, z)) = one_passed n m (many seen.literal ws at done) ws p (sym e ∙ h) in
-            let t = lit n m ws p {r = Ok q} (sym (answer_got _ g)) refl in
+            let t = lit n m ws p {r = Ok q} (sym (answer_got _ _ g)) refl in
             let y : spoken ((seen.literal).read ws p).said (many seen.literal ws at done) ≡ false = ap (λ (x : Literal). spoken x.said (many seen.literal ws at done)) (same_value t.is g) ∙ z in
             let b : many seen.literal ws at (done + 1) ≡ many seen.literal ws at done ++ ((seen.literal).read ws p ∷ []) = rw (add-one done, s.here) (many_more seen.literal ws at done) in
             record {
               fit = below_more _ done s.fit (rw (← s.here) t.ok);
               here = place_on ((seen.literal).next ws) at done s.here t.next;
-              same = s.same ∙ rw (at_least, t.is, y, b) (step_made _ _);
+              same = s.same ∙ rw (at_least, t.is, y, b) (step_made _ _ _);
             }

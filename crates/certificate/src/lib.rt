@@ -115,6 +115,7 @@ impl Item for Line {
 }
 
 // The whole certificate: what it proposes; the atoms that it names are below n, the credentials below m.
+#[inline(never)]
 pub fn certificate(words: &[u16], n: usize, m: usize) -> Result<Proposal, Refusal>
     ensures { result ≡ as_form (read.certificate n m words.now) }
 {

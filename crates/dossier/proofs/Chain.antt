@@ -7,10 +7,11 @@ use native.Mathlib.Omega.{arith}
 use lib.ListN.{length, drop}
 use lib.Dec.{leb}
 use Rattle.std.specs.Prelude.{Result, Ok, Err}
+use Rattle.reply.specs.declared.Fault.{Fault}
 use Rattle.reply.specs.declared.Refusal.{Refusal}
 use Rattle.words.specs.Out.{Out, got, bad, then, made, need, moved, after}
 use Rattle.words.specs.Read.{Any, ranged, listed, section, times}
-use Rattle.words.specs.Answer.{answer, as_step}
+use Rattle.words.specs.Answer.{answer_by, answer, as_step}
 use Rattle.words.specs.Items.{part_step, last_step, as_section}
 use Rattle.words.specs.declared.item.Section.{Section}
 use Rattle.words.specs.Code.{code_many}
@@ -50,7 +51,7 @@ one_after n m ws p = ap (moved p) (one_thing n m (drop p ws) 0) ∙ both (secret
 
 -- what the code answers of it, where no word may be left
 secret_told : (n m : ℕ) (ws : List ℕ) (p : ℕ) → last_step (λ us q. as_step (entry n m us q)) 1 2 ws p ≡ answer (λ e q. 1) (then (after (secret n m) ws p) (λ e q. ended ws e q))
-unfolding ended answer
+unfolding ended answer_by
 secret_told n m ws p = told_last (entry n m) 1 2 ws p ∙ rw (one_after n m ws p) (go (after (secret n m) ws p))
   where
     left : (e : Entry) (q : ℕ) (b : Bool) → answer (λ es r. length es) (need b 9 q (got (e ∷ []) q)) ≡ answer (λ e r. 1) (need b 9 q (got e q))
@@ -70,22 +71,22 @@ pub record Sectioned {A : Type 0} (r : List ℕ → ℕ → Out A) (code : A →
   pub within : s.next ≤ length ws
 
 sectioned : {A : Type 0} {r : List ℕ → ℕ → Out A} {code : A → List ℕ} {Form : A → Type 0} → Reads r code Form → (lo hi : ℕ) (ws : List ℕ) (p : ℕ) → p ≤ length ws
-    → {a : Result Section Refusal} {s : Section} → a ≡ as_section (after (section lo hi r) ws p) → a ≡ Ok s → Sectioned r code lo hi ws p s
+    → {a : Result Section (Refusal Fault)} {s : Section} → a ≡ as_section (after (section lo hi r) ws p) → a ≡ Ok s → Sectioned r code lo hi ws p s
 sectioned {r = r} R lo hi ws p h {s = s} f g =
-    let b = passed _ (after (section lo hi r) ws p) f g in
+    let b = passed _ _ (after (section lo hi r) ws p) f g in
     let n : s.next ≡ b.p = ap (λ (t : Section). t.next) b.told in
     let e : after (section lo hi r) ws p ≡ got b.v s.next = b.is ∙ ap (got b.v) (sym n) in
     record { xs = b.v; is = e; count = ap (λ (t : Section). t.count) b.told; place = (reads_got (reads_after (reads_section R lo hi)) e).0.next; within = got_in (in_after (reads_section R lo hi).inside ws p h) e }
 
 module _ (n m : ℕ) (small : n ≤ 256) (ws : List ℕ) (p : ℕ) (h : p ≤ length ws) where
-  pub probes_read : {r : Result Section Refusal} {s : Section} → r ≡ part_step (λ us q. as_step (entry n m us q)) 0 65 ws p → r ≡ Ok s → Sectioned (entry n m) code_entry 0 65 ws p s
+  pub probes_read : {r : Result Section (Refusal Fault)} {s : Section} → r ≡ part_step (λ us q. as_step (entry n m us q)) 0 65 ws p → r ≡ Ok s → Sectioned (entry n m) code_entry 0 65 ws p s
   probes_read f g = sectioned (reads_entry n m small) 0 65 ws p h (f ∙ told_part (entry n m) 0 65 ws p) g
 
-  pub probes_bad : {r : Result Section Refusal} {x : Refusal} → r ≡ part_step (λ us q. as_step (entry n m us q)) 0 65 ws p → r ≡ Err x → Err x ≡ as_asked p (asked n m ws p)
-  unfolding asked answer
-  probes_bad f g = let b = failed _ (after (section 0 65 (entry n m)) ws p) (f ∙ told_part (entry n m) 0 65 ws p) g in rw b.is (ap Err b.told)
+  pub probes_bad : {r : Result Section (Refusal Fault)} {x : Refusal Fault} → r ≡ part_step (λ us q. as_step (entry n m us q)) 0 65 ws p → r ≡ Err x → Err x ≡ as_asked p (asked n m ws p)
+  unfolding asked answer_by
+  probes_bad f g = let b = failed _ _ (after (section 0 65 (entry n m)) ws p) (f ∙ told_part (entry n m) 0 65 ws p) g in rw b.is (ap Err b.told)
 
-  module _ {s : Section} (a : Sectioned (entry n m) code_entry 0 65 ws p s) {r : Result ℕ Refusal} (f : r ≡ last_step (λ us q. as_step (entry n m us q)) 1 2 ws s.next) where
+  module _ {s : Section} (a : Sectioned (entry n m) code_entry 0 65 ws p s) {r : Result ℕ (Refusal Fault)} (f : r ≡ last_step (λ us q. as_step (entry n m us q)) 1 2 ws s.next) where
     -- after the probes, the secret and the end of the paper
     abbrev last : Out Entry
     last = then (after (secret n m) ws s.next) (λ e q. ended ws e q)
@@ -102,13 +103,13 @@ module _ (n m : ℕ) (small : n ≤ 256) (ws : List ℕ) (p : ℕ) (h : p ≤ le
         go (got e q) = left e q (leb (length ws) q)
         go (bad e q w) = refl
 
-    pub asked_bad : {x : Refusal} → r ≡ Err x → Err x ≡ as_asked p (asked n m ws p)
-    unfolding answer
-    asked_bad g = let b = failed _ last (f ∙ secret_told n m ws s.next) g in rw (then_asked, b.is) (ap Err b.told)
+    pub asked_bad : {x : Refusal Fault} → r ≡ Err x → Err x ≡ as_asked p (asked n m ws p)
+    unfolding answer_by
+    asked_bad g = let b = failed _ _ last (f ∙ secret_told n m ws s.next) g in rw (then_asked, b.is) (ap Err b.told)
 
     pub asked_done : {j : ℕ} → r ≡ Ok j → Ok s ≡ as_asked p (asked n m ws p)
-    unfolding answer
-    asked_done g = let b = passed _ last (f ∙ secret_told n m ws s.next) g in rw (then_asked, b.is) (ap₂ (λ (k q : ℕ). Ok (record { count = k; next = q })) a.count a.place)
+    unfolding answer_by
+    asked_done g = let b = passed _ _ last (f ∙ secret_told n m ws s.next) g in rw (then_asked, b.is) (ap₂ (λ (k q : ℕ). Ok (record { count = k; next = q })) a.count a.place)
 
 -- ---- the whole dossier
 
@@ -138,15 +139,15 @@ pub record Labels (ws : List ℕ) (p : ℕ) : Type 0 where
   pub few : length ls ≤ 64
   pub within : p ≤ length ws
 
-pub labels_read : (ws : List ℕ) {r : Result ℕ Refusal} {p : ℕ} → r ≡ as_step (listed 1 65 Any ws 0) → r ≡ Ok p → Labels ws p
+pub labels_read : (ws : List ℕ) {r : Result ℕ (Refusal Fault)} {p : ℕ} → r ≡ as_step (listed 1 65 Any ws 0) → r ≡ Ok p → Labels ws p
 labels_read ws f g =
-    let (ls, e) = stepped (listed 1 65 Any ws 0) f g in
+    let (ls, e) = stepped _ (listed 1 65 Any ws 0) f g in
     let s = reads_got (reads_listed 1 65 Any) e in
     record { ls = ls; is = e; place = omega (arith, s.0.next); few = omega (arith, s.1.1); within = got_in ((reads_listed 1 65 Any).inside ws 0 (omega arith)) e }
 
-pub labels_bad : (ws : List ℕ) {r : Result ℕ Refusal} {x : Refusal} → r ≡ as_step (listed 1 65 Any ws 0) → r ≡ Err x → Err x ≡ as_form (dossier ws)
-unfolding dossier sections answer
-labels_bad ws f g = let b = failed _ (listed 1 65 Any ws 0) f g in rw b.is (ap Err b.told)
+pub labels_bad : (ws : List ℕ) {r : Result ℕ (Refusal Fault)} {x : Refusal Fault} → r ≡ as_step (listed 1 65 Any ws 0) → r ≡ Err x → Err x ≡ as_form (dossier ws)
+unfolding dossier sections answer_by
+labels_bad ws f g = let b = failed _ _ (listed 1 65 Any ws 0) f g in rw b.is (ap Err b.told)
 
 -- the dossier made of what was read
 abbrev whole : List ℕ → List Marked → List Clause → List Entry → Entry → Dossier
@@ -160,40 +161,40 @@ module _ (ws : List ℕ) {p : ℕ} (l : Labels ws p) where
   pub atoms_are : p - 1 ≡ atoms
   atoms_are = omega (arith, l.place)
 
-  module _ {r : Result Section Refusal} (f : r ≡ part_step (λ us q. as_step (marked (p - 1) us q)) 0 129 ws p) where
+  module _ {r : Result Section (Refusal Fault)} (f : r ≡ part_step (λ us q. as_step (marked (p - 1) us q)) 0 129 ws p) where
     at_clauses : r ≡ as_section (after (section 0 129 (marked atoms)) ws p)
     at_clauses = f ∙ told_part (marked (p - 1)) 0 129 ws p ∙ ap (λ (n : ℕ). as_section (after (section 0 129 (marked n)) ws p)) atoms_are
 
-    pub clauses_bad : {x : Refusal} → r ≡ Err x → Err x ≡ as_form (dossier ws)
-    unfolding dossier sections answer
-    clauses_bad g = let b = failed _ (after (section 0 129 (marked atoms)) ws p) at_clauses g in rw (l.is, b.is) (ap Err b.told)
+    pub clauses_bad : {x : Refusal Fault} → r ≡ Err x → Err x ≡ as_form (dossier ws)
+    unfolding dossier sections answer_by
+    clauses_bad g = let b = failed _ _ (after (section 0 129 (marked atoms)) ws p) at_clauses g in rw (l.is, b.is) (ap Err b.told)
 
     pub clauses_read : {s : Section} → r ≡ Ok s → Sectioned (marked atoms) code_marked 0 129 ws p s
     clauses_read g = sectioned (reads_marked atoms) 0 129 ws p l.within at_clauses g
 
   module _ {c : Section} (s : Sectioned (marked (length l.ls)) code_marked 0 129 ws p c) where
-    module _ {r : Result Section Refusal} (f : r ≡ part_step (λ us q. as_step (clause (p - 1) us q)) 0 33 ws c.next) where
+    module _ {r : Result Section (Refusal Fault)} (f : r ≡ part_step (λ us q. as_step (clause (p - 1) us q)) 0 33 ws c.next) where
       at_creds : r ≡ as_section (after (section 0 33 (clause atoms)) ws c.next)
       at_creds = f ∙ told_part (clause (p - 1)) 0 33 ws c.next ∙ ap (λ (n : ℕ). as_section (after (section 0 33 (clause n)) ws c.next)) atoms_are
 
-      pub creds_bad : {x : Refusal} → r ≡ Err x → Err x ≡ as_form (dossier ws)
-      unfolding dossier sections answer
-      creds_bad g = let b = failed _ (after (section 0 33 (clause atoms)) ws c.next) at_creds g in rw (l.is, s.is, b.is) (ap Err b.told)
+      pub creds_bad : {x : Refusal Fault} → r ≡ Err x → Err x ≡ as_form (dossier ws)
+      unfolding dossier sections answer_by
+      creds_bad g = let b = failed _ _ (after (section 0 33 (clause atoms)) ws c.next) at_creds g in rw (l.is, s.is, b.is) (ap Err b.told)
 
       pub creds_read : {k : Section} → r ≡ Ok k → Sectioned (clause atoms) code_clause 0 33 ws c.next k
       creds_read g = sectioned (reads_clause atoms) 0 33 ws c.next s.within at_creds g
 
-    module _ {d : Section} (k : Sectioned (clause (length l.ls)) code_clause 0 33 ws c.next d) {r : Result Section Refusal} (f : r ≡ as_asked d.next (asked (p - 1) d.count ws d.next)) where
+    module _ {d : Section} (k : Sectioned (clause (length l.ls)) code_clause 0 33 ws c.next d) {r : Result Section (Refusal Fault)} (f : r ≡ as_asked d.next (asked (p - 1) d.count ws d.next)) where
       abbrev these : Out Asked
       these = asked atoms (length k.xs) ws d.next
 
       at_asked : r ≡ as_asked d.next these
       at_asked = f ∙ ap (λ (n : ℕ). as_asked d.next (asked n d.count ws d.next)) atoms_are ∙ ap (λ (j : ℕ). as_asked d.next (asked atoms j ws d.next)) k.count
 
-      pub rest_bad : {x : Refusal} → r ≡ Err x → Err x ≡ as_form (dossier ws)
-      unfolding dossier sections answer
+      pub rest_bad : {x : Refusal Fault} → r ≡ Err x → Err x ≡ as_form (dossier ws)
+      unfolding dossier sections answer_by
       rest_bad g =
-          let b = failed _ these at_asked g in
+          let b = failed _ _ these at_asked g in
           rw (l.is, s.is, k.is, asked_is (whole l.ls s.xs k.xs) atoms (length k.xs) ws d.next, b.is) (ap Err b.told)
 
       module _ {t : Section} (g : r ≡ Ok t) where
@@ -201,9 +202,9 @@ module _ (ws : List ℕ) {p : ℕ} (l : Labels ws p) where
         found = record { atoms = p - 1; clauses = p + 1; nclauses = c.count; creds = c.next + 1; ncreds = d.count; probes = d.next + 1; nprobes = t.count; secret = t.next + 1 }
 
         pub all_read : Ok found ≡ as_form (dossier ws)
-        unfolding dossier sections answer layout_of
+        unfolding dossier sections answer_by layout_of
         all_read =
-            let b = passed _ these at_asked g in
+            let b = passed _ _ these at_asked g in
             let u : t.count ≡ length b.v.probes = ap (λ (x : Section). x.count) b.told in
             let v : t.next ≡ d.next + length (code_many code_entry b.v.probes) = ap (λ (x : Section). x.next) b.told in
             rw (l.is, s.is, k.is, asked_is (whole l.ls s.xs k.xs) atoms (length k.xs) ws d.next, b.is) (cc (atoms_are, u, v, k.place, s.place, l.place, s.count, k.count))

@@ -13,7 +13,7 @@ use Rattle.reply.specs.declared.Fault.{Fault}
 use Rattle.reply.specs.declared.Fault.TheVariants as fault
 use Rattle.reply.specs.declared.Refusal.{Refusal}
 use Rattle.reply.specs.Numbers.{number}
-use Rattle.words.specs.Answer.{answer, as_step, at_word}
+use Rattle.words.specs.Answer.{answer_by, as_step, at_word}
 use Rattle.words.proofs.Steps.{step_made, answer_fault, failed, stepped}
 use Rattle.dossier.proofs.Formula.{Strange, high, unknown}
 
@@ -61,13 +61,13 @@ module _ (n lp end d : ℕ) (ws : List ℕ) (at : ℕ) where
       op_strange f s = answer_fault _ (operand_strange refl s)
 
       pub op_atom : get_or ws at 0 < n → as_step (operand n lp end d ws at) ≡ Ok (at + 1)
-      unfolding by_kind answer choose ◌is◌
+      unfolding by_kind answer_by choose ◌is◌
       op_atom h = rw op_step (simp (lt-ltb _ _ h))
 
       module _ (h₁ : n ≤ get_or ws at 0) where
         module _ (h₂ : 256 ≤ get_or ws at 0) where
           pub op_true : get_or ws at 0 ≡ 256 → as_step (operand n lp end d ws at) ≡ Ok (at + 1)
-          unfolding by_kind answer choose ◌is◌
+          unfolding by_kind answer_by choose ◌is◌
           op_true h = rw op_step (simp (le-ltb _ _ h₁, le-ltb _ _ h₂, eq-eqb _ _ h))
 
           module _ (h₃ : get_or ws at 0 ≡ 256 → ⊥) where
@@ -77,10 +77,10 @@ module _ (n lp end d : ℕ) (ws : List ℕ) (at : ℕ) where
 
             module _ (h₄ : get_or ws at 0 ≡ 257 → ⊥) where
               module _ (h₅ : get_or ws at 0 ≤ 259) where
-                pub op_bad : {r : Result ℕ Refusal} {x : Refusal} → r ≡ as_step (operand n lp end (d - 1) ws (at + 1)) → r ≡ Err x → as_step (operand n lp end d ws at) ≡ Err x
-                unfolding by_kind answer choose ◌is◌
-                op_bad t g = let b = failed _ (operand n lp end (d - 1) ws (at + 1)) t g in rw op_step (simp (le-ltb _ _ h₁, le-ltb _ _ h₂, ne_eqb _ _ h₃, ne_eqb _ _ h₄, le-ltb _ _ h₅, b.is) (ap Err (sym b.told)))
+                pub op_bad : {r : Result ℕ (Refusal Fault)} {x : Refusal Fault} → r ≡ as_step (operand n lp end (d - 1) ws (at + 1)) → r ≡ Err x → as_step (operand n lp end d ws at) ≡ Err x
+                unfolding by_kind answer_by choose ◌is◌
+                op_bad t g = let b = failed _ _ (operand n lp end (d - 1) ws (at + 1)) t g in rw op_step (simp (le-ltb _ _ h₁, le-ltb _ _ h₂, ne_eqb _ _ h₃, ne_eqb _ _ h₄, le-ltb _ _ h₅, b.is) (ap Err (sym b.told)))
 
-                pub op_both : {r : Result ℕ Refusal} {p : ℕ} → r ≡ as_step (operand n lp end (d - 1) ws (at + 1)) → r ≡ Ok p → as_step (operand n lp end d ws at) ≡ as_step (operand n lp end (d - 1) ws p)
+                pub op_both : {r : Result ℕ (Refusal Fault)} {p : ℕ} → r ≡ as_step (operand n lp end (d - 1) ws (at + 1)) → r ≡ Ok p → as_step (operand n lp end d ws at) ≡ as_step (operand n lp end (d - 1) ws p)
                 unfolding by_kind choose ◌is◌
-                op_both t g = let h = stepped (operand n lp end (d - 1) ws (at + 1)) t g in rw op_step (simp (le-ltb _ _ h₁, le-ltb _ _ h₂, ne_eqb _ _ h₃, ne_eqb _ _ h₄, le-ltb _ _ h₅, h.1, step_made))
+                op_both t g = let h = stepped _ (operand n lp end (d - 1) ws (at + 1)) t g in rw op_step (simp (le-ltb _ _ h₁, le-ltb _ _ h₂, ne_eqb _ _ h₃, ne_eqb _ _ h₄, le-ltb _ _ h₅, h.1, step_made))

@@ -1,5 +1,6 @@
 -- The code's answers: where the sections of a sound dossier stand, or the refusal.
 use Rattle.std.specs.Prelude.{ℕ, ◌+◌, List, length, Result}
+use Rattle.reply.specs.declared.Fault.{Fault}
 use Rattle.reply.specs.declared.Refusal.{Refusal}
 use Rattle.words.specs.Out.{Out, then, after}
 use Rattle.words.specs.Read.{section}
@@ -23,8 +24,8 @@ asked n m ws p =
     then (after (secret n m) ws q) (λ s r. ended ws (record { probes = es; secret = s }) r))
 
 -- of the probes and the secret, whose sections begin at p: how many probes there are, and where the secret's section begins
-abbrev pub as_asked : ℕ → Out Asked → Result Section Refusal
+abbrev pub as_asked : ℕ → Out Asked → Result Section (Refusal Fault)
 as_asked p o = answer (λ a q. record { count = length a.probes; next = p + length (code_many code_entry a.probes) }) o
 
-abbrev pub as_form : Out Dossier → Result Layout Refusal
+abbrev pub as_form : Out Dossier → Result Layout (Refusal Fault)
 as_form o = answer (λ D p. layout_of D) o

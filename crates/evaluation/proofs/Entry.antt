@@ -1,10 +1,11 @@
 -- An entry's answer and the rounds that first add each atom, from the table after 64 rounds.
-use Prim.Native.Nat.{ℕ, zero, suc, ◌<◌, ◌≤◌}
+use Prim.Native.Nat.{ℕ, zero, suc, ◌+◌, ◌-◌, ◌<◌, ◌≤◌}
 use mathlib.Core.Path.{◌≡◌, refl, sym, ap, ap₂, ◌∙◌, subst}
 use mathlib.Core.Bool.{Bool, true, false, not}
 use mir.Val.{bool_byte}
 use mathlib.Core.List.{List, [], ◌∷◌, ◌++◌}
 use native.Mathlib.Omega.{arith}
+use native.Mathlib.Numerals.{add-one}
 use lib.ListN.{length, get_or, take, drop, replicate}
 use lib.Seq.{take_at}
 use Rattle.meaning.specs.Tests.{◌∈◌, ◌and◌, ◌or◌, same}
@@ -24,8 +25,8 @@ use Rattle.promise.proofs.Place.{fit_each, rows_length, rows_get, rows_are}
 use Rattle.evaluation.specs.Table.{has, in_table}
 use Rattle.evaluation.specs.Which.{policy_at, joined_at, WhichFits, Sources, Ready}
 use Rattle.evaluation.specs.Answer.{answer_of, answer_word, round_of}
-use Rattle.evaluation.specs.Held.{table_of, read_in}
-use Rattle.evaluation.specs.Policy.{Asked, Keeps, kept_at, table_in}
+use Rattle.evaluation.specs.Held.{table_of, last_of, read_in}
+use Rattle.evaluation.specs.Policy.{Asked, Keeps, kept_at, last_kept, table_in}
 use Rattle.evaluation.specs.Posed.{Posed}
 use Rattle.evaluation.specs.declared.Kept.{Kept}
 use Rattle.std.specs.Prelude.{None, Some}
@@ -175,6 +176,24 @@ kept_none P = tt
 pub kept_some : (P : Posed) {k : Kept} (p : ℕ) → EntryFits P.layout.atoms P.layout.ncreds P.words p → k ≡ kept_at P p → Keeps P (Some k)
 unfolding Keeps
 kept_some P p fits e = rw e (fits, refl)
+
+pub kept_first : (P : Posed) (t : List ℕ) → None ≡ last_kept P t 0
+unfolding last_kept
+kept_first P t = refl
+
+pub kept_last : (P : Posed) (t : List ℕ) (k : ℕ) {x : Kept} → x ≡ kept_at P (get_or t k 0) → Some x ≡ last_kept P t (k + 1)
+unfolding last_kept
+kept_last P t k e = rw (add-one k) (ap Some e)
+
+-- where the last of k things begins
+pub last_none : (t : List ℕ) (k : ℕ) → k ≡ 0 → last_of t k ≡ 0
+unfolding last_of
+last_none t k e = rw e
+
+pub last_some : (t : List ℕ) (k : ℕ) → (k ≡ 0 → ⊥) → last_of t k ≡ get_or t (k - 1) 0
+unfolding last_of
+last_some t zero n = absurd (n refl)
+last_some t (suc k) n = ap (λ (j : ℕ). get_or t j 0) (omega arith)
 
 -- an answer as a word, as the library converts it
 pub byte_bit : (b : Bool) → bool_byte b ≡ bit b

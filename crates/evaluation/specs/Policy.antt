@@ -1,5 +1,5 @@
 -- The same, of a policy as the code hands it on: what is asked of it, what it makes true, and what is kept of it.
-use Rattle.std.specs.Prelude.{ℕ, ◌+◌, ◌≤◌, ◌<◌, ◌≡◌, Bool, List, length, Option, None, Some}
+use Rattle.std.specs.Prelude.{ℕ, zero, suc, ◌+◌, ◌≤◌, ◌<◌, ◌≡◌, Bool, List, get_or, length, Option, None, Some}
 use Rattle.meaning.specs.Tests.{◌∈◌}
 use Rattle.meaning.specs.Policy as meant
 use Rattle.promise.specs.Place.{part}
@@ -40,3 +40,8 @@ kept_at P p = record { entry = p; table = table_in P (entry_at P.words p) }
 unfoldable pub Keeps : Posed → Option Kept → Type 0
 Keeps P None = Unit {0}
 Keeps P (Some k) = EntryFits P.layout.atoms P.layout.ncreds P.words k.entry × (k ≡ kept_at P k.entry)
+
+-- what is kept after the first k of the entries whose places the table has: that of the last
+unfoldable pub last_kept : Posed → List ℕ → ℕ → Option Kept
+last_kept P t zero = None
+last_kept P t (suc k) = Some (kept_at P (get_or t k 0))

@@ -9,14 +9,15 @@ ghost use Rattle.promise.specs.Place.{part, rows, filled};
 ghost use Rattle.promise.specs.Thing.{Things, clause_next, marked_next};
 ghost use Rattle.promise.specs.Formula.{FormulaFits, entry_at, entry_of, EntryFits};
 ghost use Rattle.promise.specs.Clause.{clause_of};
+ghost use Rattle.promise.specs.Code.{bit};
 ghost use Rattle.promise.specs.Layout.{ProbeStarts};
 ghost use Rattle.evaluation.specs.Table.{has, before, fire_one, fire_all, in_table};
 ghost use Rattle.evaluation.specs.Fired.{fired_all, ClauseFires, clause_fired, MarkedFires, marked_fired, named_end, NamedFires, named_fired};
 ghost use Rattle.evaluation.specs.Which.{Fires, Ready};
 ghost use Rattle.evaluation.specs.Posed.{Posed};
 ghost use Rattle.evaluation.specs.Answer.{answer_word};
-ghost use Rattle.evaluation.specs.Held.{read_in};
-ghost use Rattle.evaluation.specs.Policy.{policy_in, joined_in, table_in, answer_in_policy, round_in, Asked, Keeps, kept_at};
+ghost use Rattle.evaluation.specs.Held.{last_of, read_in};
+ghost use Rattle.evaluation.specs.Policy.{policy_in, joined_in, table_in, answer_in_policy, round_in, Asked, Keeps, kept_at, last_kept};
 ghost use Rattle.evaluation.specs.declared.Which.TheVariants.{Own};
 
 use promise::{ClauseAt, EntryAt, Layout, Valuation};
@@ -256,6 +257,24 @@ pub fn answer_in(d: &[u16], p: usize, table: &[u8]) -> bool
     holds
 }
 
+// An answer as a word.
+pub fn word_of(a: bool) -> u16
+    ensures { result ≡ bit a }
+{
+    u16::from(a)
+}
+
+// Where the last of the k things of the table begins; 0 if there is none.
+pub fn last_of(table: &[usize], k: usize) -> usize
+    requires { k ≤ length table.now }
+    ensures { result ≡ last_of table.now k }
+{
+    if k == 0 {
+        return 0;
+    }
+    table[k - 1]
+}
+
 // ---- the policy
 
 impl<'a> PolicyAt<'a> {
@@ -367,7 +386,8 @@ impl<'a> PolicyAt<'a> {
     // Writes every probe's answer in the dossier's own policy to the table. Answers what holds at the last probe, if there is one.
     fn answer_probes(&self, probes: &[usize], table: &mut [u16]) -> Option<Kept>
         requires { (self.now.which ≡ Own) × ProbeStarts self.now.words self.now.layout probes.now × (self.now.layout.nprobes ≤ length table.old) }
-        ensures { (table.new ≡ filled (answer_word self.now.words self.now.layout) self.now.layout.nprobes table.old) × Keeps self.now result }
+        ensures { (table.new ≡ filled (answer_word self.now.words self.now.layout) self.now.layout.nprobes table.old)
+            × (result ≡ last_kept self.now probes.now self.now.layout.nprobes) × Keeps self.now result }
     {
         let n = self.layout.atoms;
         let mut kept = None;

@@ -3,8 +3,9 @@ use Prim.Native.Nat.{ℕ, ◌≤◌}
 use mathlib.Core.Path.{◌≡◌, sym, ap, ◌∙◌}
 use mathlib.Core.List.{List}
 use native.Mathlib.Omega.{arith}
+use Rattle.reply.specs.declared.Fault as reply
 use Rattle.reply.specs.declared.Refusal.{Refusal}
-use Rattle.reply.specs.Numbers.{number}
+use Rattle.reply.specs.Numbers.{number, fault_of}
 use Rattle.reply.proofs.Numbers.{number_fault}
 use Rattle.words.specs.Out.{Out, bad}
 use Rattle.words.proofs.Steps.{Failed}
@@ -46,8 +47,8 @@ certificate_few (CertificateRow.long h) = (omega arith, omega arith)
 certificate_few (CertificateRow.form h r) = row_few r
 
 -- what was refused, by the refusal that the code was given
-pub told_bad : {A : Type 0} {o : Out A} {x : Refusal} (b : Failed o x) → Few b.e → o ≡ bad (number x.fault) x.place x.count
+pub told_bad : {A : Type 0} {o : Out A} {x : Refusal reply.Fault} (b : Failed fault_of o x) → Few b.e → o ≡ bad (number x.fault) x.place x.count
 told_bad b few =
     b.is
     ∙ ap (λ (n : ℕ). bad n b.p b.w) (sym (number_fault b.e few.0 (omega (arith, few.1))))
-    ∙ sym (ap (λ (y : Refusal). bad (number y.fault) y.place y.count) b.told)
+    ∙ sym (ap (λ (y : Refusal reply.Fault). bad (number y.fault) y.place y.count) b.told)

@@ -4,6 +4,7 @@ use mathlib.Core.Path.{◌≡◌, sym, ap, ◌∙◌, subst}
 use mathlib.Core.List.{List}
 use lib.ListN.{length}
 use Rattle.std.specs.Prelude.{Result, Ok, Err}
+use Rattle.reply.specs.declared.Fault.{Fault}
 use Rattle.reply.specs.declared.Refusal.{Refusal}
 use Rattle.reply.specs.Numbers.{number}
 use Rattle.words.specs.Out.{bad}
@@ -25,11 +26,11 @@ use Rattle.judging.proofs.Numbers.{told_bad, row_few, certificate_few}
 
 -- ---- the dossier
 
-pub dossier_sound_lem : (d : List ℕ) {r : Result Layout Refusal} {o : Layout} → r ≡ dossiers.as_form (dossier d) → r ≡ Ok o → Sound d o
-dossier_sound_lem d t g = let b = passed _ (dossier d) t g in record { paper = b.v; end = b.p; is_read = b.is; layout = b.told }
+pub dossier_sound_lem : (d : List ℕ) {r : Result Layout (Refusal Fault)} {o : Layout} → r ≡ dossiers.as_form (dossier d) → r ≡ Ok o → Sound d o
+dossier_sound_lem d t g = let b = passed _ _ (dossier d) t g in record { paper = b.v; end = b.p; is_read = b.is; layout = b.told }
 
-pub dossier_refused : (d : List ℕ) {r : Result Layout Refusal} {x : Refusal} → r ≡ dossiers.as_form (dossier d) → r ≡ Err x → dossier d ≡ bad (number x.fault) x.place x.count
-dossier_refused d t g = let b = failed _ (dossier d) t g in let (us, row, size) = dossier_shows d b.e b.p b.w b.is in told_bad b (row_few row)
+pub dossier_refused : (d : List ℕ) {r : Result Layout (Refusal Fault)} {x : Refusal Fault} → r ≡ dossiers.as_form (dossier d) → r ≡ Err x → dossier d ≡ bad (number x.fault) x.place x.count
+dossier_refused d t g = let b = failed _ _ (dossier d) t g in let (us, row, size) = dossier_shows d b.e b.p b.w b.is in told_bad b (row_few row)
 
 module _ (d : List ℕ) (o : Layout) (s : Sound d o) where
   coded : (d ≡ code_dossier s.paper) × DossierForm s.paper
@@ -60,11 +61,11 @@ module _ (d : List ℕ) (o : Layout) (s : Sound d o) where
 -- ---- the certificate
 
 module _ (n m : ℕ) (c : List ℕ) where
-  pub certificate_sound_lem : {r : Result Proposal Refusal} {x : Proposal} → r ≡ certificates.as_form (certificate n m c) → r ≡ Ok x → Offered n m c x
-  certificate_sound_lem t g = let b = passed _ (certificate n m c) t g in record { paper = b.v; end = b.p; is_read = b.is; proposal = b.told }
+  pub certificate_sound_lem : {r : Result Proposal (Refusal Fault)} {x : Proposal} → r ≡ certificates.as_form (certificate n m c) → r ≡ Ok x → Offered n m c x
+  certificate_sound_lem t g = let b = passed _ _ (certificate n m c) t g in record { paper = b.v; end = b.p; is_read = b.is; proposal = b.told }
 
-  pub certificate_refused : {r : Result Proposal Refusal} {x : Refusal} → r ≡ certificates.as_form (certificate n m c) → r ≡ Err x → certificate n m c ≡ bad (number x.fault) x.place x.count
-  certificate_refused t g = let b = failed _ (certificate n m c) t g in let (us, row, size) = certificate_shows n m c b.e b.p b.w b.is in told_bad b (certificate_few row)
+  pub certificate_refused : {r : Result Proposal (Refusal Fault)} {x : Refusal Fault} → r ≡ certificates.as_form (certificate n m c) → r ≡ Err x → certificate n m c ≡ bad (number x.fault) x.place x.count
+  certificate_refused t g = let b = failed _ _ (certificate n m c) t g in let (us, row, size) = certificate_shows n m c b.e b.p b.w b.is in told_bad b (certificate_few row)
 
   module _ (x : Proposal) (s : Offered n m c x) where
     written : (c ≡ code_certificate s.paper) × CertificateForm n m s.paper

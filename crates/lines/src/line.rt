@@ -219,10 +219,16 @@ impl<'a> Line<'a> {
     }
 
     // Whether l is one of its literals.
+    #[inline(always)]
     pub(crate) fn has(&self, l: &Literal) -> bool
         ensures { result ≡ is_in self.now.literals l.now }
     {
-        self.literals().any(|m| m.is_same_as(l))
+        for m in self.literals() {
+            if m.is_same_as(l) {
+                return true;
+            }
+        }
+        false
     }
 
     // Whether number i is its only literal, so that there are no others.

@@ -8,27 +8,6 @@ use Rattle.reply.specs.declared.Fault.{Fault}
 use Rattle.reply.specs.declared.Fault.TheVariants as fault
 use Rattle.reply.specs.Numbers.{number, fault_of}
 
-pub fault_number : (f : Fault) → fault_of (number f) ≡ f
-unfolding fault_of
-fault_number fault.Ended = refl
-fault_number fault.Limits = refl
-fault_number fault.Atom = refl
-fault_number fault.NotRising = refl
-fault_number fault.Sign = refl
-fault_number fault.Credential = refl
-fault_number fault.FormulaWord = refl
-fault_number fault.FormulaShape = refl
-fault_number fault.LeftOver = refl
-fault_number fault.TooLong = refl
-fault_number fault.Kind = refl
-fault_number fault.Rule = refl
-fault_number fault.SaidTwice = refl
-fault_number fault.ProbeDiffers = refl
-fault_number fault.SecretKept = refl
-fault_number fault.LineFails = refl
-fault_number fault.LastNotEmpty = refl
-fault_number fault.ShortTable = refl
-
 pub number_fault : (e : ℕ) → 1 ≤ e → e ≤ 18 → number (fault_of e) ≡ e
 unfolding fault_of
 number_fault zero h k = absurd (omega arith)

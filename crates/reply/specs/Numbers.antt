@@ -1,5 +1,5 @@
 -- What is wrong with the papers: the number of each fault, and the fault of each number.
-use Rattle.std.specs.Prelude.{ℕ, ◌-◌, List, [], ◌∷◌, get_or}
+use Rattle.std.specs.Prelude.{◌≡◌, refl, ℕ, ◌-◌, List, [], ◌∷◌, get_or}
 use Rattle.reply.specs.declared.Fault.{Fault}
 use Rattle.reply.specs.declared.Fault.TheVariants as fault
 
@@ -32,3 +32,25 @@ faults =
 -- the fault that a number tells; a number that is no fault's tells the first
 unfoldable pub fault_of : ℕ → Fault
 fault_of e = get_or faults (e - 1) fault.Ended
+
+-- a fault is the one that its number tells: what `Tells` asks of it
+pub fault_number : (f : Fault) → fault_of (number f) ≡ f
+unfolding fault_of
+fault_number fault.Ended = refl
+fault_number fault.Limits = refl
+fault_number fault.Atom = refl
+fault_number fault.NotRising = refl
+fault_number fault.Sign = refl
+fault_number fault.Credential = refl
+fault_number fault.FormulaWord = refl
+fault_number fault.FormulaShape = refl
+fault_number fault.LeftOver = refl
+fault_number fault.TooLong = refl
+fault_number fault.Kind = refl
+fault_number fault.Rule = refl
+fault_number fault.SaidTwice = refl
+fault_number fault.ProbeDiffers = refl
+fault_number fault.SecretKept = refl
+fault_number fault.LineFails = refl
+fault_number fault.LastNotEmpty = refl
+fault_number fault.ShortTable = refl

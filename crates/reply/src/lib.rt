@@ -1,10 +1,10 @@
 // What the judge answers, and the part of a paper that an answer shows.
 #![tactic(auto)]
 
-ghost use Rattle.std.specs.Prelude.{◌≡◌};
+ghost use Rattle.std.specs.Prelude.{◌≡◌, ℕ, refl};
 ghost use Rattle.reply.specs.Part.{part_of, part_at};
 ghost use Rattle.reply.specs.Shown.{shown_of, shown_at};
-ghost use Rattle.reply.specs.Numbers.{number};
+ghost use Rattle.reply.specs.Numbers.{number, fault_of, fault_number};
 
 #[derive(Clone, Copy)]
 pub enum Paper {
@@ -69,10 +69,48 @@ impl From<Fault> for u16 {
     }
 }
 
+// What a refusal tells by: the fault, or any number.
+pub trait Tells: Copy {
+    // Its number, and what tells a number.
+    ghost as_number: { Self → ℕ };
+
+    ghost from_number: { ℕ → Self };
+
+    // What tells the fault: it has the fault's number.
+    fn of(fault: Fault) -> Self
+        ensures { as_number result ≡ number fault };
+
+    ghost back: { (x : Self) → from_number (as_number x) ≡ x };
+}
+
+impl Tells for Fault {
+    ghost as_number = { number };
+
+    ghost from_number = { fault_of };
+
+    ghost back = { fault_number };
+
+    fn of(fault: Fault) -> Fault {
+        fault
+    }
+}
+
+impl Tells for u16 {
+    ghost as_number = { λ e. e };
+
+    ghost from_number = { λ e. e };
+
+    ghost back = { λ e. refl };
+
+    fn of(fault: Fault) -> u16 {
+        u16::from(fault)
+    }
+}
+
 // A refusal that a reader finds: what is wrong, the place in the paper that it reads, and how many words are shown.
 #[derive(Clone, Copy, Debug, PartialEq, Eq)]
-pub struct Refusal {
-    pub fault: Fault,
+pub struct Refusal<W = Fault> {
+    pub fault: W,
     pub place: usize,
     pub count: usize,
 }

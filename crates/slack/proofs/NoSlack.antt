@@ -1,12 +1,18 @@
 -- The theorem of specs/NoSlack.antt, under its name in small letters.
-use mathlib.Core.Path.{◌≡◌, sym, ap₂, ◌∙◌}
+use mathlib.Core.Path.{◌≡◌, sym, ap, ap₂, ◌∙◌}
 use mathlib.Core.List.{[]}
 use Rattle.judging.proofs.Table.{row_replied, row_kept}
+use Rattle.reply.specs.declared.Fault.{Fault}
+use Rattle.reply.specs.Numbers.{number, fault_of, fault_number}
 use Rattle.slack.specs.NoSlack.{NoSlack}
 
 -- what equals one value is one
 one : {A : Type 0} {v r q : A} → r ≡ v → q ≡ v → r ≡ q
 one e f = e ∙ sym f
+
+-- two faults with one number are one
+one_fault : (f g : Fault) → number f ≡ number g → f ≡ g
+one_fault f g e = sym (fault_number f) ∙ ap fault_of e ∙ fault_number g
 
 pub no_slack : NoSlack
 no_slack =
@@ -22,6 +28,8 @@ no_slack =
       answer_in = λ κs a x y e f p q. one p q;
       answer_at = λ κs a x y e f p q. one p q;
       known = λ κs a x y e f p q. one p q;
+      last_of = λ κs a x y e f p q. one p q;
+      word_of = λ κs a x y e f p q. one p q;
       widen_table = λ κs a x y e f p q. one p q;
       rounds_table = λ κs a x y e f p q. one p q;
       answered_table = λ κs a x y e f p q. one p q;
@@ -50,14 +58,16 @@ no_slack =
       same_said = λ κs a x y e f p q. one p q;
       starts_table = λ T laws thing dict κs a x y e f p q. one p q;
       value_at = λ V laws value plain copy valuation dict clone clone_dict κs a x y e f p q. ap₂ (λ u v. (u, v)) (one p.0 q.0) (one p.1 q.1);
-      word_in = λ κs a x y e f p q. one p.0 q.0;
-      rising_words = λ κs a x y e f p q. one p q;
-      list_at = λ κs a x y e f p q. one p q;
-      at_word = λ κs a x y e f p q. one p q;
-      at_end = λ κs a x y e f p q. one p q;
+      word_in = λ W laws copy tells dict clone clone_dict κs a x y e f p q. one p.0 q.0;
+      rising_words = λ W laws copy tells dict clone clone_dict κs a x y e f p q. one p q;
+      list_at = λ W laws copy tells dict clone clone_dict κs a x y e f p q. one p q;
+      at_word = λ W laws κs a x y e f p q. one p q;
+      at_end = λ W laws copy tells dict clone clone_dict κs a x y e f p q. one p q;
       section_after = λ T laws item dict κs a x y e f p q. one p.0 q.0;
       last_section = λ T laws item dict κs a x y e f p q. one p q;
       number = λ κs a x y e f p q. one p q;
+      fault_told = λ κs a x y e f p q. one_fault x y (one p q);
+      number_told = λ κs a x y e f p q. one p q;
       shown_words = λ κs a x y e f p q. one p.0 q.0;
       shown_place = λ κs a x y e f p q. one p.1 q.1;
       split = λ κs a x y e f p q. one p q;

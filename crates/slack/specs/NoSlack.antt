@@ -1,4 +1,4 @@
--- "That any two replies allowed by a promise coincide is a proved fact": for every public function but `text::read` (how many bytes come is the input's to say), over its contract itself.
+-- "That any two replies allowed by a promise coincide is a proved fact": for every public function, over its contract itself.
 -- `Reads.Post` is what the checker reads of a function's contract: of the lifetimes, the arguments, the answer, and the parameters at exit.
 use Rattle.std.specs.Prelude.{ℕ, ◌≡◌, List}
 use Rattle.std.specs.Borrow.{MutBor}
@@ -10,6 +10,8 @@ use Rattle.lines.proofs.line.Line.at.Reads as lines-line-at
 use Rattle.evaluation.proofs.answer_in.Reads as evaluation-answer-in
 use Rattle.evaluation.proofs.PolicyAt.answer_at.Reads as evaluation-answer-at
 use Rattle.evaluation.proofs.PolicyAt.known.Reads as evaluation-known
+use Rattle.evaluation.proofs.last_of.Reads as evaluation-last-of
+use Rattle.evaluation.proofs.word_of.Reads as evaluation-word-of
 use Rattle.evaluation.proofs.widen.Reads as evaluation-widen
 use Rattle.evaluation.proofs.PolicyAt.rounds_at.Reads as evaluation-rounds-at
 use Rattle.evaluation.proofs.PolicyAt.answers.Reads as evaluation-answers
@@ -45,6 +47,8 @@ use Rattle.words.proofs.at_end.Reads as words-at-end
 use Rattle.words.proofs.section_after.Reads as words-section-after
 use Rattle.words.proofs.last_section.Reads as words-last-section
 use Rattle.reply.proofs.U16FromFault.from.Reads as reply-number
+use Rattle.reply.proofs.FaultTells.of.Reads as reply-fault-of
+use Rattle.reply.proofs.U16Tells.of.Reads as reply-number-of
 use Rattle.reply.proofs.shown.Reads as reply-shown
 use Rattle.text.proofs.split.Reads as text-split
 use Rattle.text.proofs.words.Reads as text-words
@@ -88,6 +92,8 @@ pub record NoSlack : Type 2 where
   pub answer_in : OneReply evaluation-answer-in.Post
   pub answer_at : OneReply evaluation-answer-at.Post
   pub known : OneReply evaluation-known.Post
+  pub last_of : OneReply evaluation-last-of.Post
+  pub word_of : OneReply evaluation-word-of.Post
   pub widen_table : OneTable (λ e. e.1.0) evaluation-widen.Post
   pub rounds_table : OneTable (λ e. e.1.1.0) evaluation-rounds-at.Post
   pub answered_table : OneTable (λ e. e.1.1.0) evaluation-answers.Post
@@ -119,17 +125,19 @@ pub record NoSlack : Type 2 where
   -- and of any kind of thing, and of any values
   pub starts_table : (T : _) (laws : _) (thing : _) (dict : _) → OneTable (λ e. e.1.1.0) (promise-starts.Post T laws thing dict)
   pub value_at : (V : _) (laws : _) (value : _) (plain : _) (copy : _) (valuation : _) (dict : _) (clone : _) (clone_dict : _) → OneReply (promise-value-at.Post V laws value plain copy valuation dict clone clone_dict)
-  -- words
-  pub word_in : OneReply words-word-in.Post
-  pub rising_words : OneReply words-rising-words.Post
-  pub list_at : OneReply words-list-at.Post
-  pub at_word : OneReply words-at-word.Post
-  pub at_end : OneReply words-at-end.Post
+  -- words, whatever a refusal tells by
+  pub word_in : (W : _) (laws : _) (copy : _) (tells : _) (dict : _) (clone : _) (clone_dict : _) → OneReply (words-word-in.Post W laws copy tells dict clone clone_dict)
+  pub rising_words : (W : _) (laws : _) (copy : _) (tells : _) (dict : _) (clone : _) (clone_dict : _) → OneReply (words-rising-words.Post W laws copy tells dict clone clone_dict)
+  pub list_at : (W : _) (laws : _) (copy : _) (tells : _) (dict : _) (clone : _) (clone_dict : _) → OneReply (words-list-at.Post W laws copy tells dict clone clone_dict)
+  pub at_word : (W : _) (laws : _) → OneReply (words-at-word.Post W laws)
+  pub at_end : (W : _) (laws : _) (copy : _) (tells : _) (dict : _) (clone : _) (clone_dict : _) → OneReply (words-at-end.Post W laws copy tells dict clone clone_dict)
   -- and of any kind of item
   pub section_after : (T : _) (laws : _) (item : _) (dict : _) → OneReply (words-section-after.Post T laws item dict)
   pub last_section : (T : _) (laws : _) (item : _) (dict : _) → OneReply (words-last-section.Post T laws item dict)
-  -- reply: a fault's number; the words that are shown, and their place in memory
+  -- reply: a fault's number, and what tells it; the words that are shown, and their place in memory
   pub number : OneReply reply-number.Post
+  pub fault_told : OneReply reply-fault-of.Post
+  pub number_told : OneReply reply-number-of.Post
   pub shown_words : OneOf (λ x. x.now) reply-shown.Post
   pub shown_place : OneOf (λ x. x.ref_ptr) reply-shown.Post
   -- text

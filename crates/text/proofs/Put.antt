@@ -5,9 +5,9 @@ use mathlib.Core.List.{List, [], ◌∷◌, ◌++◌, append_assoc}
 use native.Mathlib.Omega.{arith}
 use native.Mathlib.Decide.{dec_lt}
 use lib.ListN.{length, get_or, take, drop, set, length-append, length-take, length-drop}
-use lib.Seq.{set_at, drop-cons, length-take-le, take_at, drop_at, drop-drop, append_snoc, paste-zero}
+use lib.Seq.{set_at, drop-cons, length-take-le, take_at, drop_at, drop-drop, append_snoc, paste-zero, take-append-add, take-append-le}
 use borrow.Author.Tests.{lt-ltb, le-ltb}
-use borrow.Rule.Slice.PartMut.{put_mid}
+use borrow.Rule.Slice.PartMut.{put_mid, post_of}
 use Rattle.reply.specs.declared.Paper.{Paper}
 use Rattle.reply.specs.declared.Paper.TheVariants.{Dossier, Certificate}
 use Rattle.reply.specs.declared.Verdict.{Verdict}
@@ -154,3 +154,11 @@ line_short r = omega (arith, length-append (reply_text r) (10 ∷ []), reply_sho
 pub input_line_short : length input_line ≤ 96
 unfolding input_line
 input_line_short = omega arith
+
+-- the first n of a part that is put after the first a
+pub take_put : (a k n : ℕ) (xs ys : List ℕ) → a ≤ length xs → n ≤ length ys → take (a + n) (put_mid a k xs ys) ≡ take a xs ++ take n ys
+take_put a k n xs ys within fits =
+    let front = take a xs in
+    let rest = ys ++ post_of a k xs in
+    ap (λ (m : ℕ). take (m + n) (front ++ rest)) (sym (length-take-le a xs within)) ∙ take-append-add front rest n
+    ∙ ap (λ (l : List ℕ). front ++ l) (take-append-le n ys (post_of a k xs) fits)

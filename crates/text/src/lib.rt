@@ -1,14 +1,12 @@
 // What the programs read and write: bytes as words, and a reply as its line of text.
 #![tactic(auto)]
 
-ghost use Rattle.std.specs.Prelude.{◌≡◌, ◌+◌, ◌*◌, ◌/◌, ◌≤◌, ◌<◌, min, length, take};
-ghost use Rattle.std.specs.Io.KnownBytes.{Consumes};
+ghost use Rattle.std.specs.Prelude.{◌≡◌, ◌+◌, ◌*◌, ◌/◌, ◌≤◌, ◌<◌, min, length};
 ghost use Rattle.promise.specs.Place.{filled};
 ghost use Rattle.text.specs.Bytes.{word_at, whole, input_of};
 ghost use Rattle.text.specs.Line.{put, digits_of, name_of, refusal_of, reply_text, line_of, input_line};
 
 use reply::{Paper, Reply, Verdict};
-use std::io::Read;
 
 // How many words standard input has for the dossier and for the certificate.
 #[derive(Clone, Copy, Debug, PartialEq, Eq)]
@@ -33,21 +31,6 @@ fn is_whole(n: usize) -> bool
         return false;
     }
     n % 2 == 0
-}
-
-// Reads the input to the lent bytes until they are full, or nothing more comes. Answers how many bytes it got.
-pub fn read<R: Read>(input: &mut R, bytes: &mut [u8]) -> usize
-    ensures count { result ≤ length bytes.new }
-    ensures given { Consumes (R.remaining input.old) (R.remaining input.new) (take result bytes.new) }
-{
-    let mut done = 0;
-    while done < bytes.len() {
-        match input.read(&mut bytes[done..]) {
-            Ok(got) if got > 0 => done += got,
-            _ => return done,
-        }
-    }
-    done
 }
 
 // How many words the bytes have for the dossier, as their first word announces, and for the certificate; or they are nothing that can be judged.

@@ -2,6 +2,7 @@
 #![tactic(auto)]
 
 ghost use Rattle.std.specs.Prelude.{◌≡◌, ◌+◌, ◌*◌, ◌≤◌, length, replicate, take, Some, IfSome};
+ghost use Rattle.std.specs.Io.KnownBytes.{Consumes};
 ghost use Rattle.promise.specs.Place.{part};
 ghost use Rattle.text.specs.Line.{put};
 ghost use Rattle.printed.specs.Lists.{answers_line, rounds_line, asking, shown_line};
@@ -17,6 +18,9 @@ use text::Papers;
 
 // Room for a case's words, and for a table.
 const WORDS: usize = 32768;
+
+// How many bytes are read after a word that is no kind.
+const OTHER: usize = 4;
 
 // Room for a line: 96 bytes, and 6 for each word.
 const LINE: usize = 196704;
@@ -73,9 +77,24 @@ fn rounds_at(words: &[u16], fill: u16, papers: Papers, table: &mut [u16], out: &
     )
 }
 
+// Reads the input to the lent bytes until they are full, or nothing more comes. Answers how many bytes it got.
+fn read<R: Read>(input: &mut R, bytes: &mut [u8]) -> usize
+    ensures count { result ≤ length bytes.new }
+    ensures given { Consumes (R.remaining input.old) (R.remaining input.new) (take result bytes.new) }
+{
+    let mut done = 0;
+    while done < bytes.len() {
+        match input.read(&mut bytes[done..]) {
+            Ok(got) if got > 0 => done += got,
+            _ => return done,
+        }
+    }
+    done
+}
+
 // Reads the lent bytes from the input; none where it has fewer.
 fn read_whole<R: Read>(input: &mut R, bytes: &mut [u8]) -> Option<()> {
-    (text::read(input, bytes) == bytes.len()).then_some(())
+    (read(input, bytes) == bytes.len()).then_some(())
 }
 
 // What a run holds: the bytes of a case and their words, a table to lend, and a line.
@@ -95,7 +114,10 @@ impl Memory {
         if got < 2 {
             return None;
         }
-        let kind = kind_of(text::word_at(&self.bytes, 0))?;
+        let Some(kind) = kind_of(text::word_at(&self.bytes, 0)) else {
+            read(input, &mut self.bytes[..OTHER]);
+            return None;
+        };
         let header = &mut self.bytes[..header_size(kind)];
         read_whole(input, header)?;
         let case = case_of(kind, header)?;
@@ -157,7 +179,7 @@ impl Memory {
     // Reads a case and prints its line. Answers whether to go on: not at the end of the input, not after what is no case, and not
     // where the line could not be written.
     fn one_case<R: Read, W: Write>(&mut self, input: &mut R, output: &mut W) -> bool {
-        let got = text::read(input, &mut self.bytes[..2]);
+        let got = read(input, &mut self.bytes[..2]);
         if got == 0 {
             return false;
         }

@@ -9,25 +9,26 @@ use borrow.Author.Tests.{le-leb, lt-leb}
 use lib.ListN.{length, take, drop, length-drop}
 use Rattle.std.specs.Prelude.{Result, Ok, Err}
 use Rattle.reply.specs.declared.Fault.TheVariants as fault
+use Rattle.reply.specs.declared.Fault.{Fault}
 use Rattle.reply.specs.declared.Refusal.{Refusal}
 use Rattle.words.specs.declared.item.Section.{Section}
 use Rattle.words.specs.Out.{Out, got, bad, then, made, need, moved, after}
 use Rattle.words.specs.Read.{ranged, times, section}
-use Rattle.words.specs.Answer.{answer, as_step, as_got, at_word, Within}
+use Rattle.words.specs.Answer.{answer_by, answer, as_step, as_got, at_word, Within}
 use Rattle.words.specs.Items.{SectionWithin, on_ok, ended_step, last_step, moved_step, items_step, section_step, part_step, as_section}
 use Rattle.words.proofs.Promise.{OK, fine, none, anything, ok_then, ok_made, In, in_got, in_bad, reads_got, reads_ranged}
 use Rattle.words.proofs.Steps.{less_one, step_made, answer_fault}
 use Rattle.words.proofs.Parts.{take_rest}
 
-module _ (r : List ℕ → ℕ → Result ℕ Refusal) where
+module _ (r : List ℕ → ℕ → Result ℕ (Refusal Fault)) where
   -- one turn of so many items
   module _ (k : ℕ) (ws : List ℕ) (p : ℕ) where
     pub items_none : k ≤ 0 → items_step r k ws p ≡ Ok p
     unfolding items_step
     items_none h = let z : k ≡ 0 = omega arith in rw z
 
-    module _ (more : 0 < k) {o : Result ℕ Refusal} (t : o ≡ r ws p) where
-      pub items_stop : {x : Refusal} → o ≡ Err x → items_step r k ws p ≡ Err x
+    module _ (more : 0 < k) {o : Result ℕ (Refusal Fault)} (t : o ≡ r ws p) where
+      pub items_stop : {x : Refusal Fault} → o ≡ Err x → items_step r k ws p ≡ Err x
       unfolding items_step
       items_stop g = let z = sym t ∙ g in rw (less_one k more, z)
 
@@ -39,13 +40,13 @@ module _ (r : List ℕ → ℕ → Result ℕ Refusal) where
           go j e z = rw (e, z)
 
   -- a section: its count is refused, or was read and the items follow
-  module _ (lo hi : ℕ) (ws : List ℕ) {o : Result ℕ Refusal} (t : o ≡ as_got (ranged lo hi 2 ws 0)) where
-    pub section_stop : {x : Refusal} → o ≡ Err x → section_step r lo hi ws ≡ Err x
+  module _ (lo hi : ℕ) (ws : List ℕ) {o : Result ℕ (Refusal Fault)} (t : o ≡ as_got (ranged lo hi 2 ws 0)) where
+    pub section_stop : {x : Refusal Fault} → o ≡ Err x → section_step r lo hi ws ≡ Err x
     unfolding section_step
     section_stop g = let z = sym t ∙ g in rw z
 
-    module _ {k : ℕ} (g : o ≡ Ok k) {a : Result ℕ Refusal} (u : a ≡ items_step r k ws 1) where
-      pub section_item : {x : Refusal} → a ≡ Err x → section_step r lo hi ws ≡ Err x
+    module _ {k : ℕ} (g : o ≡ Ok k) {a : Result ℕ (Refusal Fault)} (u : a ≡ items_step r k ws 1) where
+      pub section_item : {x : Refusal Fault} → a ≡ Err x → section_step r lo hi ws ≡ Err x
       unfolding section_step
       section_item h = let z = sym t ∙ g in let y = sym u ∙ h in rw (z, y)
 
@@ -54,11 +55,11 @@ module _ (r : List ℕ → ℕ → Result ℕ Refusal) where
       section_done h = let z = sym t ∙ g in let y = sym u ∙ h in rw (z, y)
 
   -- the part's answer, moved to the whole
-  module _ (lo hi : ℕ) (ws : List ℕ) (p : ℕ) (h : p ≤ length ws) {a : Result Section Refusal} (t : (a ≡ section_step r lo hi (take (length ws - p) (drop p ws))) × SectionWithin (length (take (length ws - p) (drop p ws))) a) where
-    rest : {b : Result Section Refusal} → a ≡ b → section_step r lo hi (drop p ws) ≡ b
+  module _ (lo hi : ℕ) (ws : List ℕ) (p : ℕ) (h : p ≤ length ws) {a : Result Section (Refusal Fault)} (t : (a ≡ section_step r lo hi (take (length ws - p) (drop p ws))) × SectionWithin (length (take (length ws - p) (drop p ws))) a) where
+    rest : {b : Result Section (Refusal Fault)} → a ≡ b → section_step r lo hi (drop p ws) ≡ b
     rest g = ap (section_step r lo hi) (sym (take_rest ws p)) ∙ sym t.0 ∙ g
 
-    pub part_refused : {x : Refusal} → a ≡ Err x → (p + x.place + x.count ≤ length ws) × (part_step r lo hi ws p ≡ Err (record { fault = x.fault; place = p + x.place; count = x.count }))
+    pub part_refused : {x : Refusal Fault} → a ≡ Err x → (p + x.place + x.count ≤ length ws) × (part_step r lo hi ws p ≡ Err (record { fault = x.fault; place = p + x.place; count = x.count }))
     unfolding part_step moved_step
     part_refused g =
         let z = rest g in
@@ -73,8 +74,8 @@ module _ (r : List ℕ → ℕ → Result ℕ Refusal) where
         (omega (arith, i, length-drop p ws), rw z)
 
   -- a section, and whether a word is left after it
-  module _ (lo hi : ℕ) (ws : List ℕ) (p : ℕ) {a : Result Section Refusal} (t : a ≡ part_step r lo hi ws p) where
-    pub last_refused : {x : Refusal} → a ≡ Err x → last_step r lo hi ws p ≡ Err x
+  module _ (lo hi : ℕ) (ws : List ℕ) (p : ℕ) {a : Result Section (Refusal Fault)} (t : a ≡ part_step r lo hi ws p) where
+    pub last_refused : {x : Refusal Fault} → a ≡ Err x → last_step r lo hi ws p ≡ Err x
     unfolding last_step
     last_refused g = let z = sym t ∙ g in rw z
 
@@ -88,23 +89,23 @@ module _ (r : List ℕ → ℕ → Result ℕ Refusal) where
 
 -- what lies in the paper, as the code answers it
 pub within_step : {A : Type 0} {l : ℕ} {o : Out A} → In l o → Within l (as_step o)
-unfolding answer
+unfolding answer_by
 within_step (in_got h) = h
 within_step (in_bad h) = h
 
 -- what the reader of an item answers, and that its places lie in the paper
-pub reading : {A : Type 0} (r : List ℕ → ℕ → Out A) → ((ws : List ℕ) (at : ℕ) → at ≤ length ws → In (length ws) (r ws at)) → (ws : List ℕ) (at : ℕ) {o : Result ℕ Refusal} → o ≡ as_step (r ws at) → (o ≡ as_step (r ws at)) × (at ≤ length ws → Within (length ws) o)
+pub reading : {A : Type 0} (r : List ℕ → ℕ → Out A) → ((ws : List ℕ) (at : ℕ) → at ≤ length ws → In (length ws) (r ws at)) → (ws : List ℕ) (at : ℕ) {o : Result ℕ (Refusal Fault)} → o ≡ as_step (r ws at) → (o ≡ as_step (r ws at)) × (at ≤ length ws → Within (length ws) o)
 reading r inside ws at e = (e, λ h. rw e (within_step (inside ws at h)))
 
 -- a section is answered as it is read
 module _ {A : Type 0} (r : List ℕ → ℕ → Out A) where
   told_items : (k : ℕ) (ws : List ℕ) (at : ℕ) → items_step (λ us p. as_step (r us p)) k ws at ≡ as_step (times k r ws at)
-  unfolding items_step times answer
+  unfolding items_step times answer_by
   told_items zero ws at = refl
   told_items (suc k) ws at = go (r ws at) (λ p. told_items k ws p)
     where
       go : (o : Out A) → ((p : ℕ) → items_step (λ us q. as_step (r us q)) k ws p ≡ as_step (times k r ws p)) → on_ok (as_step o) (λ p. items_step (λ us q. as_step (r us q)) k ws p) ≡ as_step (then o (λ v p. made (λ vs. v ∷ vs) (times k r ws p)))
-      go (got v p) h = h p ∙ sym (step_made (λ vs. v ∷ vs) (times k r ws p))
+      go (got v p) h = h p ∙ sym (step_made _ (λ vs. v ∷ vs) (times k r ws p))
       go (bad e p w) h = refl
 
   -- so many were read
@@ -114,7 +115,7 @@ module _ {A : Type 0} (r : List ℕ → ℕ → Out A) where
   times_count (suc k) ws p = ok_then (λ v q. made (λ vs. v ∷ vs) (times k r ws q)) (anything (r ws p)) (λ v q u. ok_made (λ vs. v ∷ vs) (times_count k ws q) (λ xs s e. ap suc e))
 
   told_section : (lo hi : ℕ) (ws : List ℕ) → section_step (λ us q. as_step (r us q)) lo hi ws ≡ as_section (section lo hi r ws 0)
-  unfolding section_step section answer
+  unfolding section_step section answer_by
   told_section lo hi ws = go (ranged lo hi 2 ws 0) refl
     where
       ends : (k : ℕ) (o : Out (List A)) → OK (λ xs q. length xs ≡ k) o → on_ok (as_step o) (λ p. Ok (record { count = k; next = p })) ≡ as_section o
@@ -128,7 +129,7 @@ module _ {A : Type 0} (r : List ℕ → ℕ → Out A) where
       go (bad e p w) h = refl
 
   pub told_part : (lo hi : ℕ) (ws : List ℕ) (p : ℕ) → part_step (λ us q. as_step (r us q)) lo hi ws p ≡ as_section (after (section lo hi r) ws p)
-  unfolding part_step after moved moved_step answer
+  unfolding part_step after moved moved_step answer_by
   told_part lo hi ws p = ap (moved_step p) (told_section lo hi (drop p ws)) ∙ told_moved (section lo hi r (drop p ws) 0)
     where
       told_moved : (o : Out (List A)) → moved_step p (as_section o) ≡ as_section (moved p o)
@@ -136,7 +137,7 @@ module _ {A : Type 0} (r : List ℕ → ℕ → Out A) where
       told_moved (bad e q w) = refl
 
   pub told_last : (lo hi : ℕ) (ws : List ℕ) (p : ℕ) → last_step (λ us q. as_step (r us q)) lo hi ws p ≡ answer (λ xs q. length xs) (then (after (section lo hi r) ws p) (λ xs q. need (leb (length ws) q) 9 q (got xs q)))
-  unfolding last_step answer
+  unfolding last_step answer_by
   told_last lo hi ws p = rw (told_part lo hi ws p) (go (after (section lo hi r) ws p))
     where
       ends : (xs : List A) (q : ℕ) (b : Bool) → ended_step b (record { count = length xs; next = q }) ≡ answer (λ ys t. length ys) (need b 9 q (got xs q))

@@ -2,6 +2,7 @@
 
 ghost use Rattle.std.specs.Prelude.{◌≡◌, ◌≤◌, ℕ, List, length};
 ghost use Rattle.std.specs.Prelude.{Result, IfOk};
+ghost use Rattle.reply.specs.declared.Fault.{Fault};
 ghost use Rattle.reply.specs.declared.Refusal.{Refusal};
 ghost use Rattle.words.specs.Answer.{Within};
 ghost use Rattle.words.specs.Items.{SectionWithin, items_step, section_step, part_step, last_step};
@@ -12,7 +13,7 @@ use std::ops::Range;
 // What a section is made of: an item is read at a place, and what it is read against stands in the value.
 pub trait Item {
     // What reading one at a place of the words answers.
-    ghost reads: { Self → List ℕ → ℕ → Result ℕ Refusal };
+    ghost reads: { Self → List ℕ → ℕ → Result ℕ (Refusal Fault) };
 
     // The place after the item that begins at `at`, or its refusal; a place of the paper, where `at` is one.
     fn read(&self, s: &[u16], at: usize) -> Result<usize, Refusal>

@@ -4,23 +4,22 @@
 mod item;
 
 ghost use Rattle.std.specs.Prelude.{◌≡◌, ◌<◌, length, IfOk};
-ghost use Rattle.reply.specs.Numbers.{number};
 ghost use Rattle.words.specs.Read.{ranged, next, rising, listed};
-ghost use Rattle.words.specs.Answer.{as_step, as_got, as_low, range_of, at_word, at_end};
+ghost use Rattle.words.specs.Answer.{at_word, end_by, step_by, got_by, low_by, range_by};
 
 pub use item::{Item, Section, last_section, section_after};
-use reply::{Fault, Refusal};
+use reply::{Fault, Refusal, Tells};
 use std::ops::Range;
 
 // What the words of a list have to be below, and what is wrong with one that is not.
 #[derive(Clone, Copy, Debug, PartialEq, Eq)]
-pub struct Limit {
+pub struct Limit<W = Fault> {
     pub below: usize,
-    pub fault: Fault,
+    pub fault: W,
 }
 
 // The refusal that shows the one word at the place.
-pub fn at_word(fault: Fault, place: usize) -> Refusal
+pub fn at_word<W>(fault: W, place: usize) -> Refusal<W>
     ensures { result ≡ at_word fault place }
 {
     Refusal {
@@ -31,19 +30,24 @@ pub fn at_word(fault: Fault, place: usize) -> Refusal
 }
 
 // A word is needed and the paper has ended: the refusal shows no word, at its end.
-pub fn at_end(s: &[u16]) -> Refusal
-    ensures { result ≡ at_end s.now }
+pub fn at_end<W: Tells>(s: &[u16]) -> Refusal<W>
+    ensures { result ≡ end_by W.from_number s.now }
 {
     Refusal {
-        fault: Fault::Ended,
+        fault: W::of(Fault::Ended),
         place: s.len(),
         count: 0,
     }
 }
 
 // The word at `at`, which is to be in the range; else a refusal with the fault.
-pub fn word_in(s: &[u16], at: usize, range: Range<usize>, fault: Fault) -> Result<usize, Refusal>
-    ensures { (result ≡ as_got (ranged range.start range.end (number fault) s.now at)) × IfOk result (λ x. at < length s.now) }
+pub fn word_in<W: Tells>(
+    s: &[u16],
+    at: usize,
+    range: Range<usize>,
+    fault: W,
+) -> Result<usize, Refusal<W>>
+    ensures { (result ≡ got_by W.from_number (ranged range.start range.end (W.as_number fault) s.now at)) × IfOk result (λ x. at < length s.now) }
 {
     if s.len() <= at {
         return Err(at_end(s));
@@ -56,8 +60,13 @@ pub fn word_in(s: &[u16], at: usize, range: Range<usize>, fault: Fault) -> Resul
 }
 
 // The word at p, which is to be within the limit and at least low; told by the least that the word after it may be.
-fn next_word(s: &[u16], p: usize, low: usize, limit: Option<Limit>) -> Result<usize, Refusal>
-    ensures { result ≡ as_low (next (range_of limit) low s.now p) }
+fn next_word<W: Tells>(
+    s: &[u16],
+    p: usize,
+    low: usize,
+    limit: Option<Limit<W>>,
+) -> Result<usize, Refusal<W>>
+    ensures { result ≡ low_by W.from_number (next (range_by W.as_number limit) low s.now p) }
 {
     if s.len() <= p {
         return Err(at_end(s));
@@ -69,14 +78,19 @@ fn next_word(s: &[u16], p: usize, low: usize, limit: Option<Limit>) -> Result<us
         }
     }
     if x < low {
-        return Err(at_word(Fault::NotRising, p));
+        return Err(at_word(W::of(Fault::NotRising), p));
     }
     Ok(x + 1)
 }
 
 // k words from `at` on, each within the limit, strictly rising: the place after them.
-pub fn rising_words(s: &[u16], at: usize, k: usize, limit: Option<Limit>) -> Result<usize, Refusal>
-    ensures { result ≡ as_step (rising (range_of limit) 0 k s.now at) }
+pub fn rising_words<W: Tells>(
+    s: &[u16],
+    at: usize,
+    k: usize,
+    limit: Option<Limit<W>>,
+) -> Result<usize, Refusal<W>>
+    ensures { result ≡ step_by W.from_number (rising (range_by W.as_number limit) 0 k s.now at) }
 {
     let mut low = 0;
     for i in 0..k {
@@ -86,14 +100,14 @@ pub fn rising_words(s: &[u16], at: usize, k: usize, limit: Option<Limit>) -> Res
 }
 
 // A list: a count in the range, and so many words; the place after them.
-pub fn list_at(
+pub fn list_at<W: Tells>(
     s: &[u16],
     at: usize,
     counts: Range<usize>,
-    limit: Option<Limit>,
-) -> Result<usize, Refusal>
-    ensures { result ≡ as_step (listed counts.start counts.end (range_of limit) s.now at) }
+    limit: Option<Limit<W>>,
+) -> Result<usize, Refusal<W>>
+    ensures { result ≡ step_by W.from_number (listed counts.start counts.end (range_by W.as_number limit) s.now at) }
 {
-    let k = word_in(s, at, counts, Fault::Limits)?;
+    let k = word_in(s, at, counts, W::of(Fault::Limits))?;
     rising_words(s, at + 1, k, limit)
 }

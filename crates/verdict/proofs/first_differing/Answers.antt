@@ -24,14 +24,14 @@ loop-i-init c =
 pub known-known-requires : goal.known-known-requires
 known-known-requires c =
     let on = rw (← c.tried.view_is) at c.requires.0 in
-    let there = probe_there c.tried.invariant on.probes_at c.loop-i.i c.loop-i-test.true in
+    let there = probe_there c.tried.invariant on.probes_at c.loop-i.i (omega arith) in
     (c.loop-i.invariant.1, rw (← c.tried.view_is) there)
 
 pub probe_agrees-requires : goal.probe_agrees-requires
 probe_agrees-requires c =
     let on = rw (← c.tried.view_is) at c.requires.0 in
     let found = ap (λ (k : Kept). k.table) (rw (← c.tried.view_is) at c.known-known.ensures) in
-    let reads = probe_reads c.tried.invariant on.probes_at c.loop-i.i c.loop-i-test.true found in
+    let reads = probe_reads c.tried.invariant on.probes_at c.loop-i.i (omega arith) found in
     (omega (arith, on.answers.long), reads.0, reads.1)
 
 pub returns-then-not-probe_agrees : goal.returns-then-not-probe_agrees
@@ -43,10 +43,10 @@ returns-then-not-probe_agrees c =
     let before = rw (← c.tried.view_is) at c.loop-i.invariant in
     let kept = rw (← c.tried.view_is) at c.known-known.ensures in
     let found = ap (λ (k : Kept). k.table) kept in
-    let same = probe_judged c.tried.invariant on.probes_at on.answers on.tried i c.loop-i-test.true found c.probe_agrees.ensures in
-    let numbers = probe_rounds c.tried.invariant on.probes_at i c.loop-i-test.true found _ (rw c.loop-i.invariant.2 at c.widen.ensures) in
-    let there = ap₂ (λ (v : Which) (q : ℕ). filled (round_of D.words.now D.layout D.witness.now v q) D.layout.atoms c.args.rounds.now) on.tried (on.probes_at.each i c.loop-i-test.true) in
-    rw (← c.tried.view_is) (sym (ap untold (from_fault (probe_agrees (dossier_at D.words.now D.layout) (many (credential D.layout.atoms) D.witness.now 2 c.args.count)) D.layout.nprobes i before.0 c.loop-i-test.true (sym same ∙ c.if-not-probe_agrees.true))), numbers ∙ there)
+    let same = probe_judged c.tried.invariant on.probes_at on.answers on.tried i (omega arith) found c.probe_agrees.ensures in
+    let numbers = probe_rounds c.tried.invariant on.probes_at i (omega arith) found _ (rw c.loop-i.invariant.2 at c.widen.ensures) in
+    let there = ap₂ (λ (v : Which) (q : ℕ). filled (round_of D.words.now D.layout D.witness.now v q) D.layout.atoms c.args.rounds.now) on.tried (on.probes_at.each i (omega arith)) in
+    rw (← c.tried.view_is) (sym (ap untold (from_fault (probe_agrees (dossier_at D.words.now D.layout) (many (credential D.layout.atoms) D.witness.now 2 c.args.count)) D.layout.nprobes i before.0 (omega arith) (sym same ∙ c.if-not-probe_agrees.true))), numbers ∙ there)
 
 pub loop-i-preserved : goal.loop-i-preserved
 loop-i-preserved c =
@@ -56,8 +56,8 @@ loop-i-preserved c =
     let before = rw (← c.tried.view_is) at c.loop-i.invariant in
     let kept = rw (← c.tried.view_is) at c.known-known.ensures in
     let found = ap (λ (k : Kept). k.table) kept in
-    let same = probe_judged c.tried.invariant on.probes_at on.answers on.tried i c.loop-i-test.true found c.probe_agrees.ensures in
-    rw (← c.tried.view_is) (from_next (probe_agrees (dossier_at D.words.now D.layout) (many (credential D.layout.atoms) D.witness.now 2 c.args.count)) D.layout.nprobes i before.0 c.loop-i-test.true (sym same ∙ c.if-not-probe_agrees.false), kept_some _ _ (probe_there c.tried.invariant on.probes_at i c.loop-i-test.true) kept, c.loop-i.invariant.2)
+    let same = probe_judged c.tried.invariant on.probes_at on.answers on.tried i (omega arith) found c.probe_agrees.ensures in
+    rw (← c.tried.view_is) (from_next (probe_agrees (dossier_at D.words.now D.layout) (many (credential D.layout.atoms) D.witness.now 2 c.args.count)) D.layout.nprobes i before.0 (omega arith) (sym same ∙ c.if-not-probe_agrees.false), kept_some _ _ (probe_there c.tried.invariant on.probes_at i (omega arith)) kept, c.loop-i.invariant.2)
 
 pub returns : goal.returns
 unfolding rounds_there

@@ -22,21 +22,21 @@ invariant_of-before c =
 pub at-line-requires : goal.at-line-requires
 at-line-requires c =
     let a = c.args in
-    line_fits a.grounds.now a.s.now a.starts.now a.k c.requires.0 c.loop-j.j c.loop-j-test.true c.requires.1
+    line_fits a.grounds.now a.s.now a.starts.now a.k c.requires.0 c.loop-j.j (omega arith) c.requires.1
 
 pub returns-then-not-line_follows : goal.returns-then-not-line_follows
 returns-then-not-line_follows c =
     let a = c.args in
     let j = c.loop-j.j in
-    let said = line_at_lem a.grounds.now a.s.now a.starts.now a.k c.requires.0 j c.loop-j-test.true (rw c.at-line.ensures at c.line_follows.ensures) in
-    sym (ap untold (from_fault (line_follows a.grounds.now (many line a.s.now 2 a.k)) a.k j c.loop-j.invariant c.loop-j-test.true (sym said ∙ c.if-not-line_follows.true)))
+    let said = line_at_lem a.grounds.now a.s.now a.starts.now a.k c.requires.0 j (omega arith) (rw c.at-line.ensures at c.line_follows.ensures) in
+    sym (ap untold (from_fault (line_follows a.grounds.now (many line a.s.now 2 a.k)) a.k j c.loop-j.invariant (omega arith) (sym said ∙ c.if-not-line_follows.true)))
 
 pub loop-j-preserved : goal.loop-j-preserved
 loop-j-preserved c =
     let a = c.args in
     let j = c.loop-j.j in
-    let said = line_at_lem a.grounds.now a.s.now a.starts.now a.k c.requires.0 j c.loop-j-test.true (rw c.at-line.ensures at c.line_follows.ensures) in
-    from_next (line_follows a.grounds.now (many line a.s.now 2 a.k)) a.k j c.loop-j.invariant c.loop-j-test.true (sym said ∙ c.if-not-line_follows.false)
+    let said = line_at_lem a.grounds.now a.s.now a.starts.now a.k c.requires.0 j (omega arith) (rw c.at-line.ensures at c.line_follows.ensures) in
+    from_next (line_follows a.grounds.now (many line a.s.now 2 a.k)) a.k j c.loop-j.invariant (omega arith) (sym said ∙ c.if-not-line_follows.false)
 
 pub returns : goal.returns
 returns c =

@@ -6,8 +6,8 @@ use Rattle.certificate.proofs.Line.literal_at.Goals as goal
 
 pub returns-in_err-word_in : goal.returns-in_err-word_in
 unfolding literal
-returns-in_err-word_in c = kept c.from_residual.ensures ∙ handed_on _ _ _ _ c.word_in.ensures.0 c.in_err-word_in.was
+returns-in_err-word_in c = kept c.from_residual.ensures ∙ handed_on _ _ _ _ _ c.word_in.ensures.0 c.in_err-word_in.was
 
 pub returns : goal.returns
 unfolding literal
-returns c = rw ((read_word _ _ _ _ _ c.word_in.ensures.0 c.in_ok-word_in.was).is, step_made) c.statement_at.ensures
+returns c = rw ((read_word _ _ _ _ _ _ c.word_in.ensures.0 c.in_ok-word_in.was).is, step_made) c.statement_at.ensures

@@ -6,24 +6,24 @@ use Rattle.certificate.proofs.Line.statement_at.Goals as goal
 
 pub returns-in_err-p : goal.returns-in_err-p
 unfolding read.statement
-returns-in_err-p c = kept c.from_residual.ensures ∙ handed_on _ _ _ _ c.list_at.ensures c.in_err-p.was
+returns-in_err-p c = kept c.from_residual.ensures ∙ handed_on _ _ _ _ _ c.list_at.ensures c.in_err-p.was
 
 pub returns-in_err-q : goal.returns-in_err-q
 unfolding read.statement
 returns-in_err-q c =
-    let S = stepped _ c.list_at.ensures c.in_ok-p.was in
-    kept c.from_residual-in_err-q.ensures ∙ rw S.1 (handed_on _ _ _ _ c.list_at-2.ensures c.in_err-q.was)
+    let S = stepped _ _ c.list_at.ensures c.in_ok-p.was in
+    kept c.from_residual-in_err-q.ensures ∙ rw S.1 (handed_on _ _ _ _ _ c.list_at-2.ensures c.in_err-q.was)
 
 pub returns-in_err-word_in : goal.returns-in_err-word_in
 unfolding read.statement
 returns-in_err-word_in c =
-    let S = stepped _ c.list_at.ensures c.in_ok-p.was in
-    let X = stepped _ c.list_at-2.ensures c.in_ok-q.was in
-    kept c.from_residual-in_err-word_in.ensures ∙ rw (S.1, X.1, step_made) (refused_as _ _ _ c.word_in.ensures.0 c.in_err-word_in.was)
+    let S = stepped _ _ c.list_at.ensures c.in_ok-p.was in
+    let X = stepped _ _ c.list_at-2.ensures c.in_ok-q.was in
+    kept c.from_residual-in_err-word_in.ensures ∙ rw (S.1, X.1, step_made) (refused_as _ _ _ _ c.word_in.ensures.0 c.in_err-word_in.was)
 
 pub returns : goal.returns
 unfolding read.statement
 returns c =
-    let S = stepped _ c.list_at.ensures c.in_ok-p.was in
-    let X = stepped _ c.list_at-2.ensures c.in_ok-q.was in
-    rw (S.1, X.1, step_made) (sym (answer_got _ (read_word _ _ _ _ _ c.word_in.ensures.0 c.in_ok-word_in.was).is))
+    let S = stepped _ _ c.list_at.ensures c.in_ok-p.was in
+    let X = stepped _ _ c.list_at-2.ensures c.in_ok-q.was in
+    rw (S.1, X.1, step_made) (sym (answer_got _ _ (read_word _ _ _ _ _ _ c.word_in.ensures.0 c.in_ok-word_in.was).is))

@@ -8,8 +8,8 @@ use Rattle.dossier.proofs.ClauseItem.read.Goals as goal
 
 pub returns-in_err-word_in : goal.returns-in_err-word_in
 unfolding clause
-returns-in_err-word_in c = reading (clause _) (reads_clause _).inside _ _ (kept c.from_residual.ensures ∙ handed_on _ _ _ _ c.word_in.ensures.0 c.in_err-word_in.was)
+returns-in_err-word_in c = reading (clause _) (reads_clause _).inside _ _ (kept c.from_residual.ensures ∙ handed_on _ _ _ _ _ c.word_in.ensures.0 c.in_err-word_in.was)
 
 pub returns : goal.returns
 unfolding clause
-returns c = reading (clause _) (reads_clause _).inside _ _ (rw ((read_word _ _ _ _ _ c.word_in.ensures.0 c.in_ok-word_in.was).is, step_made) c.list_at.ensures)
+returns c = reading (clause _) (reads_clause _).inside _ _ (rw ((read_word _ _ _ _ _ _ c.word_in.ensures.0 c.in_ok-word_in.was).is, step_made) c.list_at.ensures)

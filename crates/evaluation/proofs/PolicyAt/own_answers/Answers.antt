@@ -5,7 +5,7 @@ use Rattle.evaluation.proofs.Entry.{table_size, table_fits, answer_is}
 use Rattle.evaluation.proofs.PolicyAt.own_answers.Goals as goal
 
 pub known-known-requires : goal.known-known-requires
-known-known-requires c = (c.answer_probes-kept.ensures.1, rw (← c.self.view_is) c.self.invariant.laid.secret)
+known-known-requires c = (c.answer_probes-kept.ensures.2, rw (← c.self.view_is) c.self.invariant.laid.secret)
 
 pub slice_bounds-answer_in-end : goal.slice_bounds-answer_in-end
 slice_bounds-answer_in-end c =

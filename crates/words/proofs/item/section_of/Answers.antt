@@ -8,7 +8,7 @@ use Rattle.words.proofs.item.section_of.Goals as goal
 pub returns-in_err-count : goal.returns-in_err-count
 returns-in_err-count g c =
     let e = kept c.from_residual.ensures in
-    (e ∙ sym (section_stop _ _ _ _ c.word_in.ensures.0 c.in_err-count.was), rw e (refused_in _ _ _ _ _ (omega arith) c.word_in.ensures.0 c.in_err-count.was))
+    (e ∙ sym (section_stop _ _ _ _ c.word_in.ensures.0 c.in_err-count.was), rw e (refused_in _ _ _ _ _ _ (omega arith) c.word_in.ensures.0 c.in_err-count.was))
 
 pub returns-in_err-next : goal.returns-in_err-next
 returns-in_err-next g c =

@@ -1,16 +1,17 @@
--- `lines::line::Line::has` meets its contract.
-use mathlib.Core.Path.{◌∙◌}
-use Rattle.std.proofs.Common.{rules, tests}
-use Rattle.std.proofs.lemmas.Iterator.Consumers.{YieldsList-from_first}
-use Rattle.std.proofs.lemmas.Iterator.Search.{any_from_yields_List}
-use Rattle.meaning.specs.Papers.{Literal}
-use Rattle.meaning.specs.Tests.{◌and◌, agree}
-use Rattle.meaning.specs.Rules.{same_statement, is_in}
-use Rattle.lines.proofs.Lists.{any_is}
+-- `lines::line::Line::has` meets its contract: the first that is left is the one, or those after it answer for it.
+use mathlib.Core.Path.{sym, ◌∙◌}
+use Rattle.meaning.specs.Rules.{is_in}
+use Rattle.promise.proofs.Step.{any_none, any_on, any_yes}
 use Rattle.lines.proofs.line.Line.has.Goals as goal
+
+pub returns-then-is_same_as : goal.returns-then-is_same_as
+unfolding is_in
+returns-then-is_same_as c = sym (c.loop-m.invariant ∙ any_yes _ c.in-Some.ensures.steps (sym c.is_same_as.ensures ∙ c.if-is_same_as.true))
+
+pub loop-m-preserved : goal.loop-m-preserved
+unfolding is_in
+loop-m-preserved c = c.loop-m.invariant ∙ any_on _ c.in-Some.ensures.steps (sym c.is_same_as.ensures ∙ c.if-is_same_as.false)
 
 pub returns : goal.returns
 unfolding is_in
-returns c =
-    any_from_yields_List (λ (m : Literal). agree m.positive c.args.l.now.positive and same_statement m.said c.args.l.now.said) _ _ _ c.any.ensures.ran (YieldsList-from_first (λ x. x) (λ s. s) c.args.self.now.literals c.literals.ensures) (λ x b q k. search (rules, tests))
-    ∙ any_is _ _
+returns c = sym (c.loop-m.invariant ∙ any_none _ c.in-None.ensures.steps.0)

@@ -1,9 +1,9 @@
--- `text::read` meets its contract. The invariant: so many bytes have room, and the input gave them.
+-- `judge::read` meets its contract. The invariant: so many bytes have room, and the input gave them.
 use Prim.Native.Nat.{◌≤◌, ◌-◌}
 use mathlib.Core.Path.{◌≡◌}
 use lib.ListN.{length, take}
 use Rattle.std.specs.Io.KnownBytes.{Consumes}
-use Rattle.text.proofs.read.Given as goal
+use Rattle.judge.proofs.read.Given as goal
 
 abbrev pub invariant-loop-done : goal.invariant-loop-done
 invariant-loop-done g l =
