@@ -80,6 +80,7 @@ pub trait Tells: Copy {
     fn of(fault: Fault) -> Self
         ensures { as_number result ≡ number fault };
 
+    // It is what its number tells.
     ghost back: { (x : Self) → from_number (as_number x) ≡ x };
 }
 

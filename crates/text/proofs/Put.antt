@@ -1,6 +1,6 @@
 -- Laws of a table that has some bytes from a place on, and of the digits of a number.
 use Prim.Native.Nat.{ℕ, zero, suc, ◌+◌, ◌-◌, ◌/◌, ◌%◌, ◌≤◌, ◌<◌}
-use mathlib.Core.Path.{◌≡◌, sym, ap, ◌∙◌}
+use mathlib.Core.Path.{◌≡◌, sym, ap, ◌∙◌, subst}
 use mathlib.Core.List.{List, [], ◌∷◌, ◌++◌, append_assoc}
 use native.Mathlib.Omega.{arith}
 use native.Mathlib.Decide.{dec_lt}
@@ -8,6 +8,9 @@ use lib.ListN.{length, get_or, take, drop, set, length-append, length-take, leng
 use lib.Seq.{set_at, drop-cons, length-take-le, take_at, drop_at, drop-drop, append_snoc, paste-zero, take-append-add, take-append-le}
 use borrow.Author.Tests.{lt-ltb, le-ltb}
 use borrow.Rule.Slice.PartMut.{put_mid, post_of}
+use Rattle.std.specs.Prelude.{Option}
+use Rattle.std.specs.Io.KnownBytes.{Consumes}
+use Rattle.std.proofs.KnownBytes.{Consumes-trans}
 use Rattle.reply.specs.declared.Paper.{Paper}
 use Rattle.reply.specs.declared.Paper.TheVariants.{Dossier, Certificate}
 use Rattle.reply.specs.declared.Verdict.{Verdict}
@@ -156,9 +159,13 @@ unfolding input_line
 input_line_short = omega arith
 
 -- the first n of a part that is put after the first a
-pub take_put : (a k n : ℕ) (xs ys : List ℕ) → a ≤ length xs → n ≤ length ys → take (a + n) (put_mid a k xs ys) ≡ take a xs ++ take n ys
+take_put : (a k n : ℕ) (xs ys : List ℕ) → a ≤ length xs → n ≤ length ys → take (a + n) (put_mid a k xs ys) ≡ take a xs ++ take n ys
 take_put a k n xs ys within fits =
     let front = take a xs in
     let rest = ys ++ post_of a k xs in
     ap (λ (m : ℕ). take (m + n) (front ++ rest)) (sym (length-take-le a xs within)) ∙ take-append-add front rest n
     ∙ ap (λ (l : List ℕ). front ++ l) (take-append-le n ys (post_of a k xs) fits)
+
+-- a reader gave the first a bytes of a table, and then the first n of what is put after them: it gave the first a + n
+pub given_on : (old now new : Option (List ℕ)) (a k n : ℕ) (xs ys : List ℕ) → a ≤ length xs → n ≤ length ys → Consumes old now (take a xs) → Consumes now new (take n ys) → Consumes old new (take (a + n) (put_mid a k xs ys))
+given_on old now new a k n xs ys within fits before after = subst (Consumes _ _) (sym (take_put a k n xs ys within fits)) (Consumes-trans _ _ _ _ _ before after)

@@ -44,6 +44,10 @@ pub answer_got : {W : Type 0} (by : ℕ → W) {A B : Type 0} (tell : A → ℕ 
 unfolding answer_by
 answer_got by tell h = rw h
 
+-- what has a number is what the number tells
+pub told_is : {W : Type 0} (number : W → ℕ) (by : ℕ → W) {x : W} {e : ℕ} → by (number x) ≡ x → number x ≡ e → by e ≡ x
+told_is number by back has = ap by (sym has) ∙ back
+
 -- an answer taken apart: a refusal was that refusal, and what passed was read
 pub record Failed {W : Type 0} (by : ℕ → W) {A : Type 0} (o : Out A) (x : Refusal W) : Type 0 where
   pub e : ℕ
@@ -117,6 +121,10 @@ module _ (lo hi e : ℕ) (ws : List ℕ) (at : ℕ) where
         let i : lo ≤ get_or ws at 0 = grind (arith, nat_tests, h.0) in
         let j : get_or ws at 0 < hi = grind (arith, nat_tests, h.1) in
         simp (lt-ltb _ _ here, le-leb _ _ i, lt-ltb _ _ j)
+
+-- the answer by an equal number
+pub got_as : {W : Type 0} (by : ℕ → W) (lo hi : ℕ) (ws : List ℕ) (at : ℕ) {e f : ℕ} {r : Result ℕ (Refusal W)} → e ≡ f → r ≡ got_by by (ranged lo hi e ws at) → r ≡ got_by by (ranged lo hi f ws at)
+got_as by lo hi ws at e h = h ∙ ap (λ (n : ℕ). got_by by (ranged lo hi n ws at)) e
 
 -- what is known of a word that was read
 pub record Read (lo hi : ℕ) (ws : List ℕ) (at x : ℕ) (o : Out ℕ) : Type 0 where
